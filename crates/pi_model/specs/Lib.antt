@@ -1,0 +1,1 @@
+-- The definitions over the plain program that contracts cite.
