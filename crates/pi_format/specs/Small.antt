@@ -1,0 +1,136 @@
+-- Which files are small for a main class, and what program such a file says with the first file before it.
+use Rattle.std.specs.Prelude.{ℕ, ◌-◌, ◌==◌, ◌&&◌, ◌||◌, not, nat_lt, nat_le, List, [], ◌∷◌, ◌++◌, Option, Some, None, Bool, true, false, if◌then◌else◌, is_some, bit_and, slice_get}
+use Rattle.std.specs.List.{list_all, list_any}
+use Rattle.pi_model.specs.declared.numbers.NameNo.{NameNo}
+use Rattle.pi_model.specs.declared.insn.Insn.{Insn}
+use Rattle.pi_model.specs.declared.insn.Insn.TheVariants.{Const, Sget, Sput, ReturnVoid, Invoke}
+use Rattle.pi_model.specs.declared.insn.Access.TheVariants.{Plain}
+use Rattle.pi_model.specs.declared.insn.How.TheVariants.{Static}
+use Rattle.pi_model.specs.declared.insn.FieldRef.{FieldRef}
+use Rattle.pi_model.specs.declared.insn.MethodRef.{MethodRef}
+use Rattle.pi_model.specs.declared.describe.Line.{Line}
+use Rattle.pi_model.specs.declared.describe.Code.{Code}
+use Rattle.pi_model.specs.declared.describe.ClassDesc.{ClassDesc}
+use Rattle.pi_model.specs.declared.describe.FieldDesc.{FieldDesc}
+use Rattle.pi_model.specs.declared.describe.MethodDesc.{MethodDesc}
+use Rattle.pi_model.specs.Program.{Program, same_name, with_file}
+use Rattle.pi_model.specs.Texts.{same_text}
+use Rattle.pi_model.specs.Search.{own_field, same_names}
+use Rattle.pi_format.specs.Bytes.{◌>>=◌}
+use Rattle.pi_format.specs.Tables.{header_holds, tables_hold, strings_of, count_at, table_at, class_defs}
+use Rattle.pi_format.specs.Core.{core_names, core_program, object_name, out_name, strings_name, void_name, int_name, print_name, main_name, clinit_name}
+use Rattle.pi_format.specs.Names.{Numbered, numbered}
+use Rattle.pi_format.specs.ClassData.{class_at}
+
+-- the flag that makes a member static
+abbrev pub is_static : ℕ → Bool
+is_static flags = bit_and flags 8 == 8
+
+-- no two of a list are the same
+abbrev pub all_distinct : {A : Type 0} → (A → A → Bool) → List A → Bool
+all_distinct same [] = true
+all_distinct same (x ∷ xs) = if list_any (same x) xs then false else all_distinct same xs
+
+abbrev pub same_field : FieldDesc → FieldDesc → Bool
+same_field a b = same_name a.name b.name && same_name a.ty b.ty
+
+-- a static int
+abbrev pub field_fits : FieldDesc → Bool
+field_fits f = same_name f.ty int_name && is_static f.flags
+
+-- the native that prints an int
+abbrev pub is_print : MethodRef → Bool
+is_print m = same_name m.class out_name && (same_name m.name print_name && (same_names m.params (int_name ∷ []) && same_name m.ret void_name))
+
+-- the one register of a list is below a number
+abbrev pub one_below : ℕ → List ℕ → Bool
+one_below words [] = false
+one_below words (c ∷ []) = nat_lt c words
+one_below words (c ∷ d ∷ others) = false
+
+-- a field of the class, as an instruction names it
+abbrev pub names_own : ClassDesc → FieldRef → Bool
+names_own d f = same_name f.class d.name && is_some (own_field d f)
+
+-- an instruction of a code of the class that works on that many registers
+abbrev pub insn_fits : ClassDesc → ℕ → Insn → Bool
+insn_fits d words (Const a v) = nat_lt a words
+insn_fits d words (Sget Plain a f) = nat_lt a words && names_own d f
+insn_fits d words (Sput Plain a f) = nat_lt a words && names_own d f
+insn_fits d words (Invoke Static m regs) = is_print m && one_below words regs
+insn_fits d words ReturnVoid = true
+insn_fits d words _ = false
+
+abbrev pub line_fits : ClassDesc → ℕ → Line → Bool
+line_fits d words line = insn_fits d words line.insn
+
+abbrev pub is_return : Insn → Bool
+is_return ReturnVoid = true
+is_return _ = false
+
+-- the last instruction returns
+abbrev pub ends_in_return : List Line → Bool
+ends_in_return [] = false
+ends_in_return (line ∷ []) = is_return line.insn
+ends_in_return (line ∷ next ∷ others) = ends_in_return (next ∷ others)
+
+-- a code with that many argument words, whose instructions leave the argument alone
+abbrev pub code_fits : ClassDesc → ℕ → Option Code → Bool
+code_fits d ins None = false
+code_fits d ins (Some code) =
+    (code.ins == ins) && (nat_le ins code.regs && (list_all (line_fits d (code.regs - ins)) code.insns && ends_in_return code.insns))
+
+-- a static method without result, of that name, with parameters of those types and as many argument words as those have
+abbrev pub method_fits : ClassDesc → NameNo → List NameNo → ℕ → MethodDesc → Bool
+method_fits d name params ins m =
+    same_name m.name name && (same_names m.params params && (same_name m.ret void_name && (is_static m.flags && code_fits d ins m.code)))
+
+abbrev pub main_fits : ClassDesc → MethodDesc → Bool
+main_fits d m = method_fits d main_name (strings_name ∷ []) 1 m
+
+abbrev pub clinit_fits : ClassDesc → MethodDesc → Bool
+clinit_fits d m = method_fits d clinit_name [] 0 m
+
+-- main, and at most an initialiser before or behind it
+abbrev pub methods_fit : ClassDesc → List MethodDesc → Bool
+methods_fit d [] = false
+methods_fit d (m ∷ []) = main_fits d m
+methods_fit d (a ∷ b ∷ []) = (main_fits d a && clinit_fits d b) || (clinit_fits d a && main_fits d b)
+methods_fit d (a ∷ b ∷ c ∷ others) = false
+
+-- the superclass is Object
+abbrev pub parent_fits : Option NameNo → Bool
+parent_fits None = false
+parent_fits (Some parent) = same_name parent object_name
+
+-- the class is no class of the first file, stands below Object, and has static ints and the two methods alone
+abbrev pub class_fits : ClassDesc → Bool
+class_fits d =
+    not (same_name d.name object_name) && (not (same_name d.name out_name) && (parent_fits d.parent
+    && (list_all field_fits d.fields && (all_distinct same_field d.fields && methods_fit d d.methods))))
+
+-- the name has this text
+abbrev pub has_text : List (List ℕ) → NameNo → List ℕ → Bool
+has_text names n text = is_text (slice_get names n.0)
+  where
+  is_text : Option (List ℕ) → Bool
+  is_text None = false
+  is_text (Some units) = same_text units text
+
+-- the program of the first file and one more, which has these new names and this class
+abbrev pub small_chain : List (List ℕ) → ClassDesc → Program
+small_chain new d = with_file core_program new (d.name ∷ []) (d ∷ [])
+
+-- the class of a file whose texts are numbered so, where it is small for the main class of that text
+unfoldable pub small_class : List ℕ → List ℕ → Numbered → Option Program
+small_class main file known = do
+  d ← class_at file known.numbers (table_at file class_defs)
+  if has_text (core_names ++ known.new) d.name main && class_fits d then Some (small_chain known.new d) else None
+
+-- the program that a small file says with the first file before it; None where the file is not small for the main class
+unfoldable pub small_program : List ℕ → List ℕ → Option Program
+small_program main file =
+    if header_holds file && tables_hold file && (count_at file class_defs == 1) then (do
+      texts ← strings_of file
+      small_class main file (numbered core_names texts))
+    else None
