@@ -3,6 +3,12 @@
 // statuses. docs/outside.md states the rules.
 #![tactic(auto)]
 
+mod counts;
+mod fail_plan;
+pub mod file_store;
+pub mod mem_sink;
+pub mod mem_store;
 pub mod outside;
 pub mod put;
 pub mod status;
+pub mod stream_sink;
