@@ -12,3 +12,5 @@ pub mod outside;
 pub mod put;
 pub mod status;
 pub mod stream_sink;
+#[cfg(test)]
+mod tests;
