@@ -1,7 +1,7 @@
 // The program of a chain of files: its names, types, classes and members by number, and what each file brought.
 
 ghost use Rattle.std.specs.Prelude.{◌≡◌, ◌≢◌, ℕ, ◌+◌, ◌^◌, ◌<◌, ◌≤◌, length, take, sum_by, position, slice_get, option_map, Some, IfOk, IfSome, IfNone, IsSomeAnd, OnOk, OnErr};
-ghost use Rattle.std.specs.List.{list_any};
+ghost use Rattle.std.specs.List.{list_any, All};
 ghost use Rattle.pi_model.specs.Program.{no_files, with_file, same_name, new_types, field_count, method_count, field_number, method_number, all_fields, all_methods};
 ghost use Rattle.pi_model.specs.Texts.{same_text, name_of};
 ghost use Rattle.pi_model.specs.Search.{class_of, type_of, class_at, in_class, member_by, method_of, field_of};
@@ -79,11 +79,33 @@ impl Prog {
         ensures first { option_map (λ n. n.0) result ≡ name_of self.now units.now }
         ensures some { IfSome result (λ n. slice_get self.now.names n.0 ≡ Some units.now) }
         ensures none { IfNone result ((k : ℕ) → slice_get self.now.names k ≢ Some units.now) }
+        ensures below { IfSome result (λ n. n.0 < length self.now.names) }
     {
         match name_place(self.names.as_slice(), units) {
             Some(at) => Some(NameNo(at as u32)),
             None => None,
         }
+    }
+
+    /// The number of types.
+    pub fn all_types(&self) -> u32
+        ensures { result ≡ length self.now.types }
+    {
+        self.types.len() as u32
+    }
+
+    /// The number of fields of all classes.
+    pub fn all_fields(&self) -> u32
+        ensures { result ≡ all_fields self.now }
+    {
+        fields_of(self.classes.as_slice())
+    }
+
+    /// The number of methods of all classes.
+    pub fn all_methods(&self) -> u32
+        ensures { result ≡ all_methods self.now }
+    {
+        methods_of(self.classes.as_slice())
     }
 
     /// The number of classes.
@@ -104,6 +126,9 @@ impl Prog {
     /// The first class of that descriptor.
     pub fn find_class(&self, n: NameNo) -> Option<ClassNo>
         ensures first { option_map (λ c. c.0) result ≡ class_of self.now n }
+        ensures some { IfSome result (λ c. IsSomeAnd (class_at self.now c.0) (λ d. d.name ≡ n)) }
+        ensures none { IfNone result (All (λ d. d.name ≢ n) self.now.classes) }
+        ensures below { IfSome result (λ c. c.0 < length self.now.classes) }
     {
         match class_place(self.classes.as_slice(), n) {
             Some(at) => Some(ClassNo(at as u32)),
@@ -148,6 +173,9 @@ impl Prog {
     /// The first type of that descriptor.
     pub fn find_type(&self, n: NameNo) -> Option<TypeNo>
         ensures first { option_map (λ t. t.0) result ≡ type_of self.now n }
+        ensures some { IfSome result (λ t. slice_get self.now.types t.0 ≡ Some n) }
+        ensures none { IfNone result (All (λ t. t ≢ n) self.now.types) }
+        ensures below { IfSome result (λ t. t.0 < length self.now.types) }
     {
         match type_place(self.types.as_slice(), n) {
             Some(at) => Some(TypeNo(at as u32)),
@@ -158,7 +186,10 @@ impl Prog {
     /// The declaring class of a method, and its place in the class's list.
     pub fn method(&self, m: MethodNo) -> (ClassNo, u32)
         requires { m.0 < all_methods self.now }
-        ensures { method_of self.now m.0 ≡ Some (in_class result.0.0 result.1) }
+        ensures member { method_of self.now m.0 ≡ Some (in_class result.0.0 result.1) }
+        ensures class { result.0.0 < length self.now.classes }
+        ensures place { IsSomeAnd (class_at self.now result.0.0) (λ d. result.1 < method_count d) }
+        ensures number { method_number self.now result.0.0 result.1 ≡ m.0 }
     {
         method_place(self.classes.as_slice(), m.0)
     }
@@ -166,7 +197,10 @@ impl Prog {
     /// The declaring class of a field, and its place in the class's list.
     pub fn field(&self, f: FieldNo) -> (ClassNo, u32)
         requires { f.0 < all_fields self.now }
-        ensures { field_of self.now f.0 ≡ Some (in_class result.0.0 result.1) }
+        ensures member { field_of self.now f.0 ≡ Some (in_class result.0.0 result.1) }
+        ensures class { result.0.0 < length self.now.classes }
+        ensures place { IsSomeAnd (class_at self.now result.0.0) (λ d. result.1 < field_count d) }
+        ensures number { field_number self.now result.0.0 result.1 ≡ f.0 }
     {
         field_place(self.classes.as_slice(), f.0)
     }
@@ -174,7 +208,9 @@ impl Prog {
     /// The number of the method at a place of a class's list.
     pub fn method_no(&self, c: ClassNo, i: u32) -> MethodNo
         requires { IsSomeAnd (class_at self.now c.0) (λ d. i < method_count d) }
-        ensures { result.0 ≡ method_number self.now c.0 i }
+        ensures number { result.0 ≡ method_number self.now c.0 i }
+        ensures member { method_of self.now result.0 ≡ Some (in_class c.0 i) }
+        ensures below { result.0 < all_methods self.now }
     {
         MethodNo(methods_of(&self.classes.as_slice()[..c.0 as usize]) + i)
     }
@@ -182,7 +218,9 @@ impl Prog {
     /// The number of the field at a place of a class's list.
     pub fn field_no(&self, c: ClassNo, i: u32) -> FieldNo
         requires { IsSomeAnd (class_at self.now c.0) (λ d. i < field_count d) }
-        ensures { result.0 ≡ field_number self.now c.0 i }
+        ensures number { result.0 ≡ field_number self.now c.0 i }
+        ensures member { field_of self.now result.0 ≡ Some (in_class c.0 i) }
+        ensures below { result.0 < all_fields self.now }
     {
         FieldNo(fields_of(&self.classes.as_slice()[..c.0 as usize]) + i)
     }
@@ -246,6 +284,8 @@ fn name_place(names: &[Units], units: &[u16]) -> Option<usize>
 
 fn class_place(classes: &[ClassDesc], n: NameNo) -> Option<usize>
     ensures first { result ≡ position (λ d. same_name d.name n) classes.now }
+    ensures some { IfSome result (λ at. IsSomeAnd (slice_get classes.now at) (λ d. d.name ≡ n)) }
+    ensures none { IfNone result (All (λ d. d.name ≢ n) classes.now) }
     ensures below { IfSome result (λ at. at < length classes.now) }
 {
     classes.iter().position(|class| class.name.0 == n.0)
@@ -253,6 +293,8 @@ fn class_place(classes: &[ClassDesc], n: NameNo) -> Option<usize>
 
 fn type_place(types: &[NameNo], n: NameNo) -> Option<usize>
     ensures first { result ≡ position (λ t. same_name t n) types.now }
+    ensures some { IfSome result (λ at. slice_get types.now at ≡ Some n) }
+    ensures none { IfNone result (All (λ t. t ≢ n) types.now) }
     ensures below { IfSome result (λ at. at < length types.now) }
 {
     types.iter().position(|t| t.0 == n.0)
@@ -301,7 +343,10 @@ fn fields_of(classes: &[ClassDesc]) -> u32
 fn method_place(classes: &[ClassDesc], number: u32) -> (ClassNo, u32)
     requires below { number < sum_by method_count classes.now }
     requires few { length classes.now < 2 ^ 32 }
-    ensures { member_by method_count classes.now 0 number ≡ Some (in_class result.0.0 result.1) }
+    ensures member { member_by method_count classes.now 0 number ≡ Some (in_class result.0.0 result.1) }
+    ensures class { result.0.0 < length classes.now }
+    ensures place { IsSomeAnd (slice_get classes.now result.0.0) (λ d. result.1 < method_count d) }
+    ensures number { sum_by method_count (take result.0.0 classes.now) + result.1 ≡ number }
 {
     let mut left = number;
     let mut c = 0;
@@ -319,7 +364,10 @@ fn method_place(classes: &[ClassDesc], number: u32) -> (ClassNo, u32)
 fn field_place(classes: &[ClassDesc], number: u32) -> (ClassNo, u32)
     requires below { number < sum_by field_count classes.now }
     requires few { length classes.now < 2 ^ 32 }
-    ensures { member_by field_count classes.now 0 number ≡ Some (in_class result.0.0 result.1) }
+    ensures member { member_by field_count classes.now 0 number ≡ Some (in_class result.0.0 result.1) }
+    ensures class { result.0.0 < length classes.now }
+    ensures place { IsSomeAnd (slice_get classes.now result.0.0) (λ d. result.1 < field_count d) }
+    ensures number { sum_by field_count (take result.0.0 classes.now) + result.1 ≡ number }
 {
     let mut left = number;
     let mut c = 0;
