@@ -1,6 +1,6 @@
 -- A worked program: the initialiser of LT; sets its field x to 5, and main prints it. Its run has 11 steps: enter, static
 -- values, call, three instructions, finish, start, three instructions.
-use Rattle.std.proofs.Common.{ℕ, List, [], ◌∷◌, Some, None, refl}
+use Rattle.std.proofs.Common.{Some, None, ◌≡◌, ℕ, List, [], ◌∷◌, Some, None, refl}
 use Rattle.std.specs.Prelude.{codes}
 use Rattle.std.specs.Fmt.{digits}
 use Rattle.pi_model.specs.declared.numbers.NameNo.{NameNo}
@@ -17,7 +17,7 @@ use Rattle.pi_model.specs.declared.insn.MethodRef.{MethodRef}
 use Rattle.pi_model.specs.Program.{Program, no_files, with_file}
 use Rattle.pi_machine.specs.Natives.{is_print_int}
 use Rattle.pi_machine.specs.Initialisation.{is_clinit}
-use Rattle.pi_machine.specs.Start.{start_names}
+use Rattle.pi_machine.specs.Start.{start_names, is_main, main_of}
 use Rattle.pi_machine.specs.Ends.{Setting, Finish, End, Returned, StepLimit, HeapLimit, FrameLimit, EndsWith}
 
 name_no : ℕ → NameNo
@@ -122,3 +122,8 @@ needs_five_words = (3, refl)
 needs_six_words : EndsWith (five 5) (given 11 16 5) 2 [] (finish FrameLimit [] 7)
 unfolding name_no line object_class out_class x_field print_ref clinit_code main_code main_class core_names five given finish is_print_int is_clinit start_names digits
 needs_six_words = (8, refl)
+
+-- the run begins for the third method of the program
+finds_main : main_of (five 5) (codes "LT;") ≡ Some 2
+unfolding name_no line object_class out_class x_field print_ref clinit_code main_code main_class core_names five is_main
+finds_main = refl

@@ -1,12 +1,14 @@
 -- The state in which a run starts.
-use Rattle.std.specs.Prelude.{ℕ, ◌+◌, ◌==◌, ◌&&◌, List, [], ◌∷◌, map, flat_map, sum_by, Some, None, Bool, false, if◌then◌else◌, unwrap_or, codes}
+use Rattle.std.specs.Prelude.{Option, Some, None, ℕ, ◌+◌, ◌==◌, ◌&&◌, bit_and, is_some, position, option_map, option_and_then, List, [], ◌∷◌, map, flat_map, sum_by, Bool, false, if◌then◌else◌, unwrap_or, codes}
 use Rattle.std.specs.List.{list_any}
 use Rattle.pi_model.specs.declared.reason.ClassState.{ClassState}
 use Rattle.pi_model.specs.declared.reason.ClassState.TheVariants.{Fresh, Done}
 use Rattle.pi_model.specs.declared.describe.ClassDesc.{ClassDesc}
 use Rattle.pi_model.specs.declared.describe.FieldDesc.{FieldDesc}
-use Rattle.pi_model.specs.Program.{Program}
-use Rattle.pi_model.specs.Texts.{is_named, name_of}
+use Rattle.pi_model.specs.declared.describe.MethodDesc.{MethodDesc}
+use Rattle.pi_model.specs.Program.{Program, method_number}
+use Rattle.pi_model.specs.Texts.{is_named, are_named, name_of}
+use Rattle.pi_model.specs.Search.{class_at}
 use Rattle.pi_model.specs.Values.{Num, Value, Word, Long, At, Object, Array, Text}
 use Rattle.pi_model.specs.Sizes.{object_bytes, letter_of}
 use Rattle.pi_machine.specs.State.{State, Made, Nothing}
@@ -69,3 +71,19 @@ start_state p main args = record {
     output = [];
     file = None
   }
+
+-- a static method main(String[]) without result, with code
+unfoldable pub is_main : Program → MethodDesc → Bool
+is_main p m =
+    is_named p m.name (codes "main") && (are_named p m.params (codes "[Ljava/lang/String;" ∷ []) && (is_named p m.ret (codes "V")
+    && ((bit_and m.flags 8 == 8) && is_some m.code)))
+
+-- the method that a run begins for: main as the class of a descriptor declares it itself
+abbrev pub main_place : Program → ClassDesc → Option ℕ
+main_place p d = position (is_main p) d.methods
+
+abbrev pub main_in : Program → ℕ → Option ℕ
+main_in p c = option_map (method_number p c) (option_and_then (main_place p) (class_at p c))
+
+abbrev pub main_of : Program → List ℕ → Option ℕ
+main_of p descriptor = option_and_then (main_in p) (position (λ (d : ClassDesc). is_named p d.name descriptor) p.classes)
