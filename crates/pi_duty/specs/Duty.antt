@@ -97,3 +97,7 @@ CommandOwes (Some l) contents o = LazyOwes l (contents l.file) o
 -- what the command of these words owes over a store of these contents
 abbrev pub Owes : List (List ℕ) → Contents → Owed → Type 0
 Owes words contents o = CommandOwes (lazy_words words) contents o
+
+-- a command owes one thing at most
+abbrev pub OwesOnce : Type 0
+OwesOnce = (words : List (List ℕ)) (contents : Contents) (a b : Owed) → Owes words contents a → Owes words contents b → a ≡ b

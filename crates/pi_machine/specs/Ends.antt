@@ -157,3 +157,18 @@ BeginsAndEnds false p given s t f = EndsFrom p given s t f
 abbrev pub EndsWith : Program → Setting → ℕ → List (List ℕ) → Finish → Type 0
 EndsWith p given main args f =
     BeginsAndEnds (nat_lt given.heap (argument_bytes p args)) p given (start_state p main args) (first_tally p args) f
+
+-- a moment of a run: the state, and what was counted by then
+pub record Moment : Type 0 where
+  pub state : State
+  pub tally : Tally
+
+abbrev pub moves_on : (State → Tally → Option Moment) → Next → Option Moment
+moves_on go (Ends end) = None
+moves_on go (Goes after tally) = go after tally
+moves_on go Sticks = None
+
+-- the moment after that many steps of a run, where it makes them under its limits
+abbrev pub moment_after : Program → Setting → ℕ → State → Tally → Option Moment
+moment_after p given zero s t = Some (record { state = s; tally = t })
+moment_after p given (suc n) s t = moves_on (moment_after p given n) (next p given s t)

@@ -8,3 +8,4 @@ pub mod Initialisation
 pub mod Step
 pub mod Start
 pub mod Ends
+pub mod Laws
