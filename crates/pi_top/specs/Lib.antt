@@ -1,1 +1,5 @@
+pub mod Answer
+pub mod Places
 pub mod Row
+pub mod Plain
+pub mod Seen
