@@ -1,5 +1,5 @@
 -- The program of a small file has the shape that upper crates rely on.
-use Rattle.std.proofs.Common.{◌≡◌, ℕ, zero, suc, ◌+◌, ◌*◌, ◌<◌, ◌≤◌, ◌==◌, ◌&&◌, ◌||◌, ◌++◌, nat_lt, List, [], ◌∷◌, length, slice_index, Option, Some, None, Bool, true, false, if◌then◌else◌, refl, sym, append_assoc, arith}
+use Rattle.std.proofs.Common.{◌≡◌, ℕ, zero, suc, ◌+◌, ◌<◌, ◌≤◌, ◌==◌, ◌&&◌, ◌||◌, ◌++◌, nat_lt, List, [], ◌∷◌, length, slice_index, Option, Some, None, Bool, true, false, if◌then◌else◌, refl, sym, append_assoc, arith}
 use Rattle.std.specs.List.{list_all, list_any, position, position_or_len}
 use Rattle.std.specs.Cmp.Lexicographic.{nat_list_eq_equiv}
 use Rattle.std.proofs.lemmas.Bool.Decides.{nat_tests}
@@ -152,12 +152,15 @@ class_is main file known p e below distinct =
     let d : ClassDesc = found.0 in
     let fits = cond_some (has_text (core_names ++ known.new) d.name main && class_fits d) (small_chain known.new d) p found.2 in
     record {
-      new = known.new; class = d; chain = sym fits.1; distinct = distinct;
+      new = known.new;
+      class = d;
+      chain = sym fits.1;
+      distinct = distinct;
       fits = second_true (has_text (core_names ++ known.new) d.name main) (class_fits d) fits.0;
       named = first_true (has_text (core_names ++ known.new) d.name main) (class_fits d) fits.0;
       laid = class_laid file known.numbers (table_at file class_defs) d found.1;
       narrow = class_small file known.numbers (table_at file class_defs) d below found.1;
-      zero_values = class_zero file known.numbers (table_at file class_defs) d found.1
+      zero_values = class_zero file known.numbers (table_at file class_defs) d found.1;
     }
 
 pub small_is : (main file : List ℕ) (p : Program) → small_program main file ≡ Some p → ((k : ℕ) → slice_index file k < 256) → IsSmall main p
