@@ -28,12 +28,12 @@ bind_some : {A B : Type 0} (m : Option A) (f : A → Option B) (y : B) → (m >>
 bind_some None f y e = absurd (none-some y e)
 bind_some (Some x) f y e = (x, refl, e)
 
+-- a step whose test is to hold went on
 choice_some : {A : Type 0} (b : Bool) (m : Option A) (y : A) → (if b then m else None) ≡ Some y → m ≡ Some y
 choice_some true m y e = e
 choice_some false m y e = absurd (none-some y e)
 
 -- every instruction has a length
-
 insn_length : (file : List ℕ) (numbers : List NameNo) (at left : ℕ) (d : Decoded) → insn_at file numbers at left ≡ Some d → nat_lt 0 d.units ≡ true
 unfolding insn_at
 insn_length file numbers at left d e = grind arith
@@ -43,6 +43,7 @@ lines_laid : (more : ℕ) (file : List ℕ) (numbers : List NameNo) (units begin
 lines_laid zero file numbers units begin at ls e = grind arith
 lines_laid (suc more) file numbers units begin at ls e = grind (arith, nat_tests, insn_length, lines_laid more)
 
+-- what was read at the offset of a code
 code_is_laid : (file : List ℕ) (numbers : List NameNo) (at : ℕ) (c : Code) → code_at file numbers at ≡ Some c → laid_from 0 c.insns ≡ true
 unfolding code_at
 code_is_laid file numbers at c e = grind (arith, lines_laid)
@@ -123,6 +124,7 @@ one_more (x ∷ xs) text e h =
     let there : list_any (same_text x) (xs ++ text ∷ []) ≡ (list_any (same_text x) xs || (same_text x text || false)) = list_any-append (same_text x) xs (text ∷ []) in
     grind (arith, one_more xs text, flip, there)
 
+-- so the texts of a chain stay distinct, however many a file brings
 noted_distinct : (old : List (List ℕ)) (so_far : Numbered) (text : List ℕ) (found : Option ℕ) → found ≡ position (same_text text) (old ++ so_far.new) → all_distinct same_text (old ++ so_far.new) ≡ true → all_distinct same_text (old ++ (noted old so_far text found).new) ≡ true
 noted_distinct old so_far text (Some n) e h = h
 noted_distinct old so_far text None e h =
