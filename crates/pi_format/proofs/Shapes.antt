@@ -108,6 +108,14 @@ class_zero : (file : List ℕ) (numbers : List NameNo) (at : ℕ) (d : ClassDesc
 unfolding class_at
 class_zero file numbers at d e = grind (arith, members_zero)
 
+class_second : (file : List ℕ) (numbers : List NameNo) (at : ℕ) (d : ClassDesc) → class_at file numbers at ≡ Some d → d.file.0 ≡ 1
+unfolding class_at
+class_second file numbers at d e = grind arith
+
+class_faces : (file : List ℕ) (numbers : List NameNo) (at : ℕ) (d : ClassDesc) → class_at file numbers at ≡ Some d → d.faces ≡ []
+unfolding class_at
+class_faces file numbers at d e = grind arith
+
 -- a test that passes nowhere
 none_passes : {A : Type 0} (p : A → Bool) (xs : List A) → length xs ≤ position_or_len p xs → list_any p xs ≡ false
 none_passes p [] h = refl
@@ -163,6 +171,8 @@ class_is main file known p e below distinct =
       laid = class_laid file known.numbers (table_at file class_defs) d found.1;
       narrow = class_small file known.numbers (table_at file class_defs) d below found.1;
       zero_values = class_zero file known.numbers (table_at file class_defs) d found.1;
+      second = class_second file known.numbers (table_at file class_defs) d found.1;
+      no_faces = class_faces file known.numbers (table_at file class_defs) d found.1;
     }
 
 pub small_is : (main file : List ℕ) (p : Program) → small_program main file ≡ Some p → ((k : ℕ) → slice_index file k < 256) → IsSmall main p

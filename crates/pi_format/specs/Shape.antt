@@ -1,5 +1,6 @@
 -- What holds of the program of each small file: its one class fits, each instruction begins where the one before it
--- ends, the numbers of registers fit their type, and no field has a value of its own.
+-- ends, the numbers of registers fit their type, no field has a value of its own, and the class is of the second file
+-- and implements nothing.
 use Rattle.std.specs.Prelude.{◌≡◌, ℕ, ◌+◌, ◌==◌, ◌&&◌, ◌++◌, nat_lt, List, [], ◌∷◌, Option, Some, None, Bool, true, false}
 use Rattle.std.specs.List.{list_all}
 use Rattle.pi_model.specs.declared.describe.Line.{Line}
@@ -54,3 +55,5 @@ pub record IsSmall (main : List ℕ) (p : Program) : Type 0 where
   pub laid : list_all method_laid class.methods ≡ true
   pub narrow : list_all method_small class.methods ≡ true
   pub zero_values : list_all has_no_value class.fields ≡ true
+  pub second : class.file.0 ≡ 1
+  pub no_faces : class.faces ≡ []
