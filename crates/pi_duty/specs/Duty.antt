@@ -64,11 +64,11 @@ end_lines p ends.FrameLimit = frame_limit_line
 -- what a run owes that ended so
 abbrev pub ended : Program → Finish → Owed
 ended p f = record {
-    status = end_status f.end;
-    output = f.output;
-    lines = end_lines p f.end ++ made_line f.steps;
-    writes = []
-  }
+  status = end_status f.end;
+  output = f.output;
+  lines = end_lines p f.end ++ made_line f.steps;
+  writes = [];
+}
 
 -- the run of a program for a main method owes what it ends with
 abbrev pub RunOwes : Program → ℕ → Option ℕ → Owed → Type 0

@@ -7,5 +7,4 @@ ghost use Rattle.pi_duty.specs.Duty.{OwesOnce};
 /// For its words and for what the store holds a command owes one thing at most.
 pub fn owes_once()
     ensures { OwesOnce }
-{
-}
+{}

@@ -31,9 +31,14 @@ object_class = record { file = record { 0 = 0 }; name = name_no 0; flags = 1; pa
 
 out_class : ClassDesc
 out_class = record {
-    file = record { 0 = 0 }; name = name_no 1; flags = 1; parent = Some (name_no 0); faces = []; fields = [];
-    methods = record { name = name_no 5; params = name_no 4 ∷ []; ret = name_no 3; flags = 0x109; code = None } ∷ []
-  }
+  file = record { 0 = 0 };
+  name = name_no 1;
+  flags = 1;
+  parent = Some (name_no 0);
+  faces = [];
+  fields = [];
+  methods = record { name = name_no 5; params = name_no 4 ∷ []; ret = name_no 3; flags = 0x109; code = None } ∷ [];
+}
 
 x_field : FieldRef
 x_field = record { class = name_no 8; name = name_no 9; ty = name_no 4 }
@@ -43,24 +48,36 @@ print_ref = record { class = name_no 1; name = name_no 5; params = name_no 4 ∷
 
 clinit_code : ℕ → Code
 clinit_code literal = record {
-    regs = 1; ins = 0; outs = 0; units = 4; tries = [];
-    insns = line 0 1 (Const 0 literal) ∷ line 1 2 (Sput Plain 0 x_field) ∷ line 3 1 ReturnVoid ∷ []
-  }
+  regs = 1;
+  ins = 0;
+  outs = 0;
+  units = 4;
+  tries = [];
+  insns = line 0 1 (Const 0 literal) ∷ line 1 2 (Sput Plain 0 x_field) ∷ line 3 1 ReturnVoid ∷ [];
+}
 
 main_code : Code
 main_code = record {
-    regs = 2; ins = 1; outs = 1; units = 6; tries = [];
-    insns = line 0 2 (Sget Plain 0 x_field) ∷ line 2 3 (Invoke Static print_ref (0 ∷ [])) ∷ line 5 1 ReturnVoid ∷ []
-  }
+  regs = 2;
+  ins = 1;
+  outs = 1;
+  units = 6;
+  tries = [];
+  insns = line 0 2 (Sget Plain 0 x_field) ∷ line 2 3 (Invoke Static print_ref (0 ∷ [])) ∷ line 5 1 ReturnVoid ∷ [];
+}
 
 main_class : ℕ → ClassDesc
 main_class literal = record {
-    file = record { 0 = 1 }; name = name_no 8; flags = 1; parent = Some (name_no 0); faces = [];
-    fields = record { name = name_no 9; ty = name_no 4; flags = 8; init = Zero } ∷ [];
-    methods =
+  file = record { 0 = 1 };
+  name = name_no 8;
+  flags = 1;
+  parent = Some (name_no 0);
+  faces = [];
+  fields = record { name = name_no 9; ty = name_no 4; flags = 8; init = Zero } ∷ [];
+  methods =
       record { name = name_no 7; params = []; ret = name_no 3; flags = 0x10008; code = Some (clinit_code literal) }
-      ∷ record { name = name_no 6; params = name_no 2 ∷ []; ret = name_no 3; flags = 9; code = Some main_code } ∷ []
-  }
+      ∷ record { name = name_no 6; params = name_no 2 ∷ []; ret = name_no 3; flags = 9; code = Some main_code } ∷ [];
+}
 
 core_names : List (List ℕ)
 core_names =
@@ -70,8 +87,8 @@ core_names =
 five : ℕ → Program
 five literal =
     with_file
-      (with_file no_files core_names (name_no 0 ∷ name_no 1 ∷ name_no 2 ∷ name_no 3 ∷ name_no 4 ∷ []) (object_class ∷ out_class ∷ []))
-      (codes "LT;" ∷ codes "x" ∷ []) (name_no 8 ∷ []) (main_class literal ∷ [])
+    (with_file no_files core_names (name_no 0 ∷ name_no 1 ∷ name_no 2 ∷ name_no 3 ∷ name_no 4 ∷ []) (object_class ∷ out_class ∷ []))
+    (codes "LT;" ∷ codes "x" ∷ []) (name_no 8 ∷ []) (main_class literal ∷ [])
 
 -- no class is held, and the limits are these
 given : ℕ → ℕ → ℕ → Setting

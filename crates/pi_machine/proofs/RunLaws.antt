@@ -88,7 +88,7 @@ module _ (p : Program) (given : Setting) where
   step_grows : (ds : Deeds) (s : State) (t : Tally) (after : State) (u : Tally) → next_step p given s t ds ≡ Goes after u → Grows s after
   step_grows None s t after u e = cc
   step_grows (Some deeds) s t after u e =
-    counted_grows (is_inside given.held s.stack (do_all deeds s).stack) (nat_lt given.heap (with_deeds p given.imaged deeds t).bytes)
+      counted_grows (is_inside given.held s.stack (do_all deeds s).stack) (nat_lt given.heap (with_deeds p given.imaged deeds t).bytes)
       (nat_lt given.frames (frame_words (do_all deeds s).stack)) s (do_all deeds s) t _ after u (deeds_grow deeds s) e
 
   limit_grows : (met : Bool) (s : State) (t : Tally) (after : State) (u : Tally)
@@ -142,9 +142,9 @@ module _ (p : Program) (given : Setting) where
 
   leads_here : (s : State) (t : Tally) (m : Moment) → record { state = s; tally = t } ≡ m → LeadsOn s t m
   leads_here s t m e = record {
-      back = λ f x. subst (λ (y : Moment). EndsFrom p given y.state y.tally f) (sym e) x;
-      on = λ f x. subst (λ (y : Moment). EndsFrom p given y.state y.tally f) e x
-    }
+    back = λ f x. subst (λ (y : Moment). EndsFrom p given y.state y.tally f) (sym e) x;
+    on = λ f x. subst (λ (y : Moment). EndsFrom p given y.state y.tally f) e x;
+  }
 
   -- one step on
   run_on : (n : ℕ) (f : Finish) (s : State) (t : Tally) (after : State) (u : Tally) → next p given s t ≡ Goes after u
@@ -158,9 +158,9 @@ module _ (p : Program) (given : Setting) where
 
   leads_step : (s : State) (t : Tally) (after : State) (u : Tally) (m : Moment) → next p given s t ≡ Goes after u → LeadsOn after u m → LeadsOn s t m
   leads_step s t after u m is l = record {
-      back = λ f x. let y : EndsFrom p given after u f = l.back f x in run_back y.0 f s t after u is y.1;
-      on = λ f x. l.on f (run_on x.0 f s t after u is x.1)
-    }
+    back = λ f x. let y : EndsFrom p given after u f = l.back f x in run_back y.0 f s t after u is y.1;
+    on = λ f x. l.on f (run_on x.0 f s t after u is x.1);
+  }
 
   leads_by : (n : ℕ) (m : Moment) (s : State) (t : Tally)
       → ((after : State) (u : Tally) → moment_after p given n after u ≡ Some m → LeadsOn after u m)

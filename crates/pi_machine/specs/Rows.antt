@@ -57,10 +57,10 @@ abbrev pub registers_of : Frame → List ℕ → Option (List Value)
 registers_of f [] = Some []
 registers_of f (a ∷ others) = joined (register_of f a) (registers_of f others)
   where
-  joined : Option Value → Option (List Value) → Option (List Value)
-  joined None rest = None
-  joined (Some v) None = None
-  joined (Some v) (Some vs) = Some (v ∷ vs)
+    joined : Option Value → Option (List Value) → Option (List Value)
+    joined None rest = None
+    joined (Some v) None = None
+    joined (Some v) (Some vs) = Some (v ∷ vs)
 
 -- set a register and go on behind the instruction; a register that the frame lacks is stuck
 abbrev pub set_and_go : Frame → ℕ → ℕ → Value → Deeds
@@ -75,18 +75,18 @@ first_do d ds = option_map (λ others. d ∷ others) ds
 abbrev pub sget_row : Program → State → Frame → ℕ → ℕ → FieldRef → Deeds
 sget_row p s f units a r = option_and_then read (find_field p r)
   where
-  read : Member → Deeds
-  read i = with_word (slice_get s.statics (field_no_of p i)) (λ n.
-      first_do (Saw (OfStatic (field_no_of p i) (Word n))) (set_and_go f units a (Word n)))
+    read : Member → Deeds
+    read i = with_word (slice_get s.statics (field_no_of p i)) (λ n.
+        first_do (Saw (OfStatic (field_no_of p i) (Word n))) (set_and_go f units a (Word n)))
 
 -- a register is written to a static int
 abbrev pub sput_row : Program → State → Frame → ℕ → ℕ → FieldRef → Deeds
 sput_row p s f units a r = option_and_then write (find_field p r)
   where
-  write : Member → Deeds
-  write i = with_word (register_of f a) (λ n.
-      if nat_lt (field_no_of p i) (length s.statics)
-      then Some (SetStatic (field_no_of p i) (Word n) ∷ Jump (f.at + units) ∷ []) else None)
+    write : Member → Deeds
+    write i = with_word (register_of f a) (λ n.
+        if nat_lt (field_no_of p i) (length s.statics)
+        then Some (SetStatic (field_no_of p i) (Word n) ∷ Jump (f.at + units) ∷ []) else None)
 
 -- a return: the frame goes, and the frame below, if there is one, goes on behind its call
 abbrev pub return_void_row : Deeds

@@ -59,18 +59,18 @@ argument_bytes p args = sum_by (object_bytes p) (argument_objects p args)
 -- arguments made.
 abbrev pub start_state : Program → ℕ → List (List ℕ) → State
 start_state p main args = record {
-    things = map (λ o. Made None o) (argument_objects p args);
-    statics = flat_map (first_values p) p.classes;
-    statuses = map (first_status p) p.classes;
-    main = Some main;
-    args = Some (Num 0);
-    started = false;
-    stack = [];
-    pending = None;
-    held = Nothing;
-    output = [];
-    file = None
-  }
+  things = map (λ o. Made None o) (argument_objects p args);
+  statics = flat_map (first_values p) p.classes;
+  statuses = map (first_status p) p.classes;
+  main = Some main;
+  args = Some (Num 0);
+  started = false;
+  stack = [];
+  pending = None;
+  held = Nothing;
+  output = [];
+  file = None;
+}
 
 -- a static method main(String[]) without result, with code
 unfoldable pub is_main : Program → MethodDesc → Bool

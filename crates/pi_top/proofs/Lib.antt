@@ -4,3 +4,8 @@ pub mod Roles
 pub mod Words
 pub mod Lookups
 pub mod MachineRows
+pub mod Laid
+pub mod MachineSteps
+pub mod MachineRuns
+pub mod MachineStart
+pub mod SmallRun

@@ -54,8 +54,11 @@ class_is d e =
     let f : (list_all field_fits d.fields ≡ true) × ((all_distinct same_field d.fields && methods_fit d d.methods) ≡ true) = both _ _ c.1 in
     let g : (all_distinct same_field d.fields ≡ true) × (methods_fit d d.methods ≡ true) = both _ _ f.1 in
     record {
-      no_object = turned d.name.0 0 (not_true _ a.0); no_out = turned d.name.0 1 (not_true _ b.0); parent = parent_is d.parent c.0;
-      fields = f.0; methods = g.1
+      no_object = turned d.name.0 0 (not_true _ a.0);
+      no_out = turned d.name.0 1 (not_true _ b.0);
+      parent = parent_is d.parent c.0;
+      fields = f.0;
+      methods = g.1;
     }
 
 print_ref : MethodRef
@@ -87,16 +90,16 @@ module _ (new : List (List ℕ)) (d : ClassDesc) (is : ClassIs d) where
 
   pub finds_field : (f : FieldRef) → names_own d f ≡ true → find_field (small_chain new d) f ≡ Some (in_class 2 (place_of d f))
   finds_field f e =
-    let a : (same_name f.class d.name ≡ true) × (is_some (own_field d f) ≡ true) = both _ _ e in
-    let b : f.class ≡ d.name = same_name-is _ _ a.0 in
-    let c : own_field d f ≡ Some (place_of d f) = own_is f (own_field d f) refl a.1 in
-    let g : field_from 3 (small_chain new d) f 2 ≡ Some (in_class 2 (place_of d f)) = rw c refl in
-    ap (option_and_then (field_from 3 (small_chain new d) f)) (ap (class_of (small_chain new d)) b ∙ finds_class) ∙ g
+      let a : (same_name f.class d.name ≡ true) × (is_some (own_field d f) ≡ true) = both _ _ e in
+      let b : f.class ≡ d.name = same_name-is _ _ a.0 in
+      let c : own_field d f ≡ Some (place_of d f) = own_is f (own_field d f) refl a.1 in
+      let g : field_from 3 (small_chain new d) f 2 ≡ Some (in_class 2 (place_of d f)) = rw c refl in
+      ap (option_and_then (field_from 3 (small_chain new d) f)) (ap (class_of (small_chain new d)) b ∙ finds_class) ∙ g
 
   pub place_within : (f : FieldRef) → names_own d f ≡ true → place_of d f < length d.fields
   place_within f e =
-    let a : (same_name f.class d.name ≡ true) × (is_some (own_field d f) ≡ true) = both _ _ e in
-    some_within (nat_lt (position_or_len (λ (x : FieldDesc). same_name x.name f.name && same_name x.ty f.ty) d.fields) (length d.fields))
+      let a : (same_name f.class d.name ≡ true) × (is_some (own_field d f) ≡ true) = both _ _ e in
+      some_within (nat_lt (position_or_len (λ (x : FieldDesc). same_name x.name f.name && same_name x.ty f.ty) d.fields) (length d.fields))
       (position_or_len (λ (x : FieldDesc). same_name x.name f.name && same_name x.ty f.ty) d.fields) (length d.fields) refl a.1
 
   pub finds_print : (m : MethodRef) → is_print m ≡ true → find_method (small_chain new d) m ≡ Some (in_class 1 0)

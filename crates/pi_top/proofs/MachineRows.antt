@@ -43,54 +43,63 @@ opened : (c : ℕ) (status : ClassState) → IsOpen status → (move : Deeds) �
 opened c status (inl e) move = rw e refl
 opened c status (inr e) move = rw e refl
 
+-- a state of the run of a small file
+abbrev pub base : List Thing → ℕ → List ℕ → ClassState → Bool → List Entry → List ℕ → State
+base things main statics status started stack output = record {
+  things = things;
+  statics = words_of statics;
+  statuses = Done ∷ Done ∷ status ∷ [];
+  main = Some main;
+  args = Some (Num 0);
+  started = started;
+  stack = stack;
+  pending = None;
+  held = Nothing;
+  output = output;
+  file = None;
+}
+
+abbrev pub frame : ℕ → ℕ → List ℕ → List Value → Frame
+frame method at words extra = record { method = method; at = at; registers = words_of words ++ extra }
+
+-- the stack after an instruction
+abbrev pub stack_after : Bool → ℕ → ℕ → List ℕ → List Value → List Entry → List Entry
+stack_after true method at words extra below = on_frame past_call below
+stack_after false method at words extra below = Call (frame method at words extra) ∷ below
+
 module _ (new : List (List ℕ)) (d : ClassDesc) (is : ClassIs d) (things : List Thing) (main : ℕ) where
-  -- a state of the run of a small file
-  abbrev pub base : List ℕ → ClassState → Bool → List Entry → List ℕ → State
-  base statics status started stack output = record {
-      things = things; statics = words_of statics; statuses = Done ∷ Done ∷ status ∷ []; main = Some main; args = Some (Num 0);
-      started = started; stack = stack; pending = None; held = Nothing; output = output; file = None
-    }
-
-  abbrev pub frame : ℕ → ℕ → List ℕ → List Value → Frame
-  frame method at words extra = record { method = method; at = at; registers = words_of words ++ extra }
-
-  -- the stack after an instruction
-  abbrev pub stack_after : Bool → ℕ → ℕ → List ℕ → List Value → List Entry → List Entry
-  stack_after true method at words extra below = on_frame past_call below
-  stack_after false method at words extra below = Call (frame method at words extra) ∷ below
-
   module _ (status : ClassState) (open_ : IsOpen status) (started : Bool) (method at units : ℕ) (words statics : List ℕ) (extra : List Value)
       (below : List Entry) (out : List ℕ) (sized : length statics ≡ length d.fields) where
     abbrev pub now : State
-    now = base statics status started (Call (frame method at words extra) ∷ below) out
+    now = base things main statics status started (Call (frame method at words extra) ∷ below) out
 
     abbrev pub after : Effect → State
-    after e = base e.statics status started (stack_after e.returns method (at + units) e.registers extra below) (out ++ e.printed)
+    after e = base things main e.statics status started (stack_after e.returns method (at + units) e.registers extra below) (out ++ e.printed)
 
     abbrev pub Does : Insn → Type 0
     Does i = DoesTo (small_chain new d) now
-      (by_need now (needed_by (small_chain new d) i) (row (small_chain new d) now (frame method at words extra) units i))
-      (after (effect_of d i words statics))
+        (by_need now (needed_by (small_chain new d) i) (row (small_chain new d) now (frame method at words extra) units i))
+        (after (effect_of d i words statics))
 
     in_frame : (a : ℕ) → nat_lt a (length words) ≡ true → nat_lt a (length (words_of words ++ extra)) ≡ true
     in_frame a e = holds_lt a _ (let l : a < length words = lt_of a (length words) e in
-      omega (arith, length-append (words_of words) extra, length_words words))
+        omega (arith, length-append (words_of words) extra, length_words words))
 
     const_does : (a v : ℕ) → nat_lt a (length words) ≡ true → Does (Const a v)
     const_does a v e = record {
-        list = SetReg a (Word v) ∷ Jump (at + units) ∷ [];
-        is = rw (in_frame a e) refl;
-        does = rw (set_word words extra a v (lt_of a _ e), append-nil out) refl;
-        counts = λ t. refl
-      }
+      list = SetReg a (Word v) ∷ Jump (at + units) ∷ [];
+      is = rw (in_frame a e) refl;
+      does = rw (set_word words extra a v (lt_of a _ e), append-nil out) refl;
+      counts = λ t. refl;
+    }
 
     return_does : Does ReturnVoid
     return_does = record {
-        list = Pop ∷ Hold Nothing ∷ GoOn ∷ [];
-        is = refl;
-        does = rw (append-nil out) refl;
-        counts = λ t. refl
-      }
+      list = Pop ∷ Hold Nothing ∷ GoOn ∷ [];
+      is = refl;
+      does = rw (append-nil out) refl;
+      counts = λ t. refl;
+    }
 
     in_statics : (f : FieldRef) → names_own d f ≡ true → place_of d f < length statics
     in_statics f e = let l : place_of d f < length d.fields = place_within new d is f e in omega (arith, sized)
@@ -103,31 +112,31 @@ module _ (new : List (List ℕ)) (d : ClassDesc) (is : ClassIs d) (things : List
 
     sget_does : (a : ℕ) (f : FieldRef) → nat_lt a (length words) ≡ true → names_own d f ≡ true → Does (Sget access.Plain a f)
     sget_does a f h own = record {
-        list = Saw (OfStatus 2 status) ∷ Saw (OfStatic (place_of d f) (Word (slice_index statics (place_of d f))))
+      list = Saw (OfStatus 2 status) ∷ Saw (OfStatic (place_of d f) (Word (slice_index statics (place_of d f))))
           ∷ SetReg a (Word (slice_index statics (place_of d f))) ∷ Jump (at + units) ∷ [];
-        is = rw (field_is f own, opened 2 status open_, number_is f, get_only statics (place_of d f) (in_statics f own), in_frame a h) refl;
-        does = rw (set_word words extra a (slice_index statics (place_of d f)) (lt_of a _ h), append-nil out) refl;
-        counts = λ t. refl
-      }
+      is = rw (field_is f own, opened 2 status open_, number_is f, get_only statics (place_of d f) (in_statics f own), in_frame a h) refl;
+      does = rw (set_word words extra a (slice_index statics (place_of d f)) (lt_of a _ h), append-nil out) refl;
+      counts = λ t. refl;
+    }
 
     sput_does : (a : ℕ) (f : FieldRef) → nat_lt a (length words) ≡ true → names_own d f ≡ true → Does (Sput access.Plain a f)
     sput_does a f h own =
-      let here : nat_lt (place_of d f) (length (words_of statics)) ≡ true =
+        let here : nat_lt (place_of d f) (length (words_of statics)) ≡ true =
         holds_lt _ _ (let l : place_of d f < length statics = in_statics f own in omega (arith, length_words statics)) in
-      record {
-        list = Saw (OfStatus 2 status) ∷ SetStatic (place_of d f) (Word (slice_index words a)) ∷ Jump (at + units) ∷ [];
-        is = rw (field_is f own, opened 2 status open_, number_is f, get_word words extra a (lt_of a _ h), here) refl;
-        does = rw (set_only statics (place_of d f) (slice_index words a) (in_statics f own), append-nil out) refl;
-        counts = λ t. refl
-      }
+        record {
+          list = Saw (OfStatus 2 status) ∷ SetStatic (place_of d f) (Word (slice_index words a)) ∷ Jump (at + units) ∷ [];
+          is = rw (field_is f own, opened 2 status open_, number_is f, get_word words extra a (lt_of a _ h), here) refl;
+          does = rw (set_only statics (place_of d f) (slice_index words a) (in_statics f own), append-nil out) refl;
+          counts = λ t. refl;
+        }
 
     print_does : (m : MethodRef) (c : ℕ) → is_print m ≡ true → nat_lt c (length words) ≡ true → Does (Invoke how.Static m (c ∷ []))
     print_does m c e h = record {
-        list = Saw (OfStatus 1 Done) ∷ CallNative 0 ∷ Print (printed_int (slice_index words c)) ∷ Hold Nothing ∷ Jump (at + units) ∷ [];
-        is = rw (finds_print new d is m e, print_native new d is, get_word words extra c (lt_of c _ h)) refl;
-        does = refl;
-        counts = λ t. refl
-      }
+      list = Saw (OfStatus 1 Done) ∷ CallNative 0 ∷ Print (printed_int (slice_index words c)) ∷ Hold Nothing ∷ Jump (at + units) ∷ [];
+      is = rw (finds_print new d is m e, print_native new d is, get_word words extra c (lt_of c _ h)) refl;
+      does = refl;
+      counts = λ t. refl;
+    }
 
     invoke_does : (m : MethodRef) (regs : List ℕ) → is_print m ≡ true → one_below (length words) regs ≡ true → Does (Invoke how.Static m regs)
     invoke_does m [] e h = cc

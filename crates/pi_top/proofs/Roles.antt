@@ -64,8 +64,16 @@ method_with d name params ins m (Some code) is a b c s e =
     let i : (nat_le ins code.regs ≡ true) × ((list_all (line_fits d (code.regs - ins)) code.insns && ends_in_return code.insns) ≡ true) = both _ _ h.1 in
     let j : (list_all (line_fits d (code.regs - ins)) code.insns ≡ true) × (ends_in_return code.insns ≡ true) = both _ _ i.1 in
     record {
-      named = a; takes = b; gives = c; static = s; code = code; coded = is; words = eq-of code.ins ins h.0; room = le-of ins code.regs i.0;
-      fits = j.0; ends = j.1
+      named = a;
+      takes = b;
+      gives = c;
+      static = s;
+      code = code;
+      coded = is;
+      words = eq-of code.ins ins h.0;
+      room = le-of ins code.regs i.0;
+      fits = j.0;
+      ends = j.1;
     }
 
 method_is : (d : ClassDesc) (name : NameNo) (params : List NameNo) (ins : ℕ) (m : MethodDesc) → method_fits d name params ins m ≡ true → MethodIs d name params ins m
@@ -124,33 +132,50 @@ module _ (new : List (List ℕ)) (d : ClassDesc) where
 
   one_method : (m : MethodDesc) → MainIs d m → RolesOf (m ∷ [])
   one_method m s = record {
-      main = m; place = 0; there = refl; is = s;
-      found = rw (main_is_main m s) refl;
-      named = rw (s.named) refl;
-      clinit = inr (record { found = rw (main_is_no_clinit m s) refl; named = rw (s.named) refl })
-    }
+    main = m;
+    place = 0;
+    there = refl;
+    is = s;
+    found = rw (main_is_main m s) refl;
+    named = rw (s.named) refl;
+    clinit = inr (record { found = rw (main_is_no_clinit m s) refl; named = rw (s.named) refl });
+  }
 
   main_first : (a b : MethodDesc) → MainIs d a → ClinitIs d b → RolesOf (a ∷ b ∷ [])
   main_first a b s t = record {
-      main = a; place = 0; there = refl; is = s;
-      found = rw (main_is_main a s) refl;
-      named = rw (s.named) refl;
-      clinit = inl (record {
-          method = b; place = 1; there = refl; is = t;
-          found = rw (main_is_no_clinit a s, clinit_is_clinit b t) refl; named = rw (s.named, t.named) refl
-        })
-    }
+    main = a;
+    place = 0;
+    there = refl;
+    is = s;
+    found = rw (main_is_main a s) refl;
+    named = rw (s.named) refl;
+    clinit = inl (record {
+      method = b;
+      place = 1;
+      there = refl;
+      is = t;
+      found = rw (main_is_no_clinit a s, clinit_is_clinit b t) refl;
+      named = rw (s.named, t.named) refl;
+    });
+  }
 
   clinit_first : (a b : MethodDesc) → ClinitIs d a → MainIs d b → RolesOf (a ∷ b ∷ [])
   clinit_first a b t s = record {
-      main = b; place = 1; there = refl; is = s;
-      found = rw (clinit_is_no_main a t, main_is_main b s) refl;
-      named = rw (t.named, s.named) refl;
-      clinit = inl (record {
-          method = a; place = 0; there = refl; is = t;
-          found = rw (clinit_is_clinit a t) refl; named = rw (t.named) refl
-        })
-    }
+    main = b;
+    place = 1;
+    there = refl;
+    is = s;
+    found = rw (clinit_is_no_main a t, main_is_main b s) refl;
+    named = rw (t.named, s.named) refl;
+    clinit = inl (record {
+      method = a;
+      place = 0;
+      there = refl;
+      is = t;
+      found = rw (clinit_is_clinit a t) refl;
+      named = rw (t.named) refl;
+    });
+  }
 
   either : (a b : Bool) → (a || b) ≡ true → (a ≡ true) ⊎ (b ≡ true)
   either true b e = inl refl
@@ -160,9 +185,9 @@ module _ (new : List (List ℕ)) (d : ClassDesc) where
   roles_of [] e = cc
   roles_of (m ∷ []) e = one_method m (method_is d main_name (strings_name ∷ []) 1 m e)
   roles_of (a ∷ b ∷ []) e = elim (either (main_fits d a && clinit_fits d b) (clinit_fits d a && main_fits d b) e) [
-      inl h ↦ (let k : (main_fits d a ≡ true) × (clinit_fits d b ≡ true) = both _ _ h in
+    | inl h ↦ (let k : (main_fits d a ≡ true) × (clinit_fits d b ≡ true) = both _ _ h in
         main_first a b (method_is d main_name (strings_name ∷ []) 1 a k.0) (method_is d clinit_name [] 0 b k.1))
     | inr h ↦ (let k : (clinit_fits d a ≡ true) × (main_fits d b ≡ true) = both _ _ h in
         clinit_first a b (method_is d clinit_name [] 0 a k.0) (method_is d main_name (strings_name ∷ []) 1 b k.1))
-    ]
+  ]
   roles_of (a ∷ b ∷ c ∷ others) e = cc

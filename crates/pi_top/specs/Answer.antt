@@ -1,5 +1,5 @@
 -- What the top call answers, beside what its words owe.
-use Rattle.std.specs.Prelude.{◌≡◌, ℕ, List, [], ◌∷◌, ◌++◌, Option, Some, None, Bool, true, false, IsTrue, ◌⊎◌}
+use Rattle.std.specs.Prelude.{Result, Ok, Err, ◌≡◌, ℕ, List, [], ◌∷◌, ◌++◌, Option, Some, None, Bool, true, false, IsTrue, ◌⊎◌}
 use Rattle.pi_top.specs.declared.plain.run.RunEnd.{RunEnd}
 use Rattle.pi_top.specs.declared.plain.run.RunEnd.TheVariants.{Returned, Limited, OutFault}
 use Rattle.pi_base.specs.Outside.{Rose, grown, Begins}
@@ -30,3 +30,8 @@ abbrev pub is_out_fault : RunEnd → Bool
 is_out_fault (Returned n) = false
 is_out_fault (Limited n) = false
 is_out_fault OutFault = true
+
+-- the run met a fault of the output
+abbrev pub ends_in_out_fault : {E : Type 0} → Result RunEnd E → Bool
+ends_in_out_fault (Ok end) = is_out_fault end
+ends_in_out_fault (Err e) = false

@@ -1,5 +1,5 @@
 -- The plain run of a small file as a function on lists: the moves of its class, and its codes line by line.
-use Rattle.std.specs.Prelude.{◌≡◌, ℕ, zero, suc, ◌+◌, ◌<◌, ◌==◌, List, [], ◌∷◌, ◌++◌, length, slice_get, Option, Some, None, Bool, true, false, if◌then◌else◌, is_some, IsSome}
+use Rattle.std.specs.Prelude.{◌≡◌, ℕ, zero, suc, ◌+◌, ◌-◌, ◌<◌, ◌==◌, List, [], ◌∷◌, ◌++◌, length, slice_get, replicate, Option, Some, None, Bool, true, false, if◌then◌else◌, is_some, IsSome}
 use Rattle.std.specs.List.{list_all}
 use Rattle.pi_model.specs.declared.describe.ClassDesc.{ClassDesc}
 use Rattle.pi_model.specs.declared.describe.Code.{Code}
@@ -46,6 +46,15 @@ line_after false line = line + 1
 abbrev pub frame_after : Effect → Registers → Registers
 frame_after e f = record { line = line_after e.returns f.line; words = e.registers }
 
+-- a frame that was not entered, of so many words
+abbrev pub blank : ℕ → Registers
+blank n = record { line = 0; words = replicate n 0 }
+
+-- how many words of registers the initialiser has
+abbrev pub clinit_words : Option Code → ℕ
+clinit_words None = 0
+clinit_words (Some code) = code.regs
+
 -- a state and what was printed on the way to it
 pub record Stepped : Type 0 where
   pub state : Plain
@@ -61,19 +70,25 @@ stage_after now next false = now
 
 abbrev pub clinit_step : Plain → Effect → Stepped
 clinit_step s e = record {
-    state = record {
-        stage = stage_after Initialising Finishing e.returns; clinit = frame_after e s.clinit; main = s.main; statics = e.statics
-      };
-    printed = e.printed
-  }
+  state = record {
+    stage = stage_after Initialising Finishing e.returns;
+    clinit = frame_after e s.clinit;
+    main = s.main;
+    statics = e.statics;
+  };
+  printed = e.printed;
+}
 
 abbrev pub main_step : Plain → Effect → Stepped
 main_step s e = record {
-    state = record {
-        stage = stage_after Running Over e.returns; clinit = s.clinit; main = frame_after e s.main; statics = e.statics
-      };
-    printed = e.printed
-  }
+  state = record {
+    stage = stage_after Running Over e.returns;
+    clinit = s.clinit;
+    main = frame_after e s.main;
+    statics = e.statics;
+  };
+  printed = e.printed;
+}
 
 -- the initialiser is called, if there is one
 abbrev pub stage_after_values : Option Code → Stage
@@ -141,3 +156,12 @@ pub record Fits (v : View) (s : Plain) : Type 0 where
   pub clinit : ClinitFits v.class v.clinit s.clinit
   pub main : FrameFits v.class v.main s.main
   pub initialises : s.stage ≡ Initialising → IsSome v.clinit
+
+-- the state in which nothing has run
+abbrev pub plain_start : View → Plain
+plain_start v = record {
+  stage = Untouched;
+  clinit = blank (clinit_words v.clinit);
+  main = blank (v.main.regs - 1);
+  statics = replicate (length v.class.fields) 0;
+}

@@ -25,13 +25,22 @@ only regs = slice_index regs 0
 abbrev pub effect_of : ClassDesc → Insn → List ℕ → List ℕ → Effect
 effect_of d (Const a v) registers statics = record { registers = slice_set registers a v; statics = statics; printed = []; returns = false }
 effect_of d (Sget kind a f) registers statics = record {
-    registers = slice_set registers a (slice_index statics (place_of d f)); statics = statics; printed = []; returns = false
-  }
+  registers = slice_set registers a (slice_index statics (place_of d f));
+  statics = statics;
+  printed = [];
+  returns = false;
+}
 effect_of d (Sput kind a f) registers statics = record {
-    registers = registers; statics = slice_set statics (place_of d f) (slice_index registers a); printed = []; returns = false
-  }
+  registers = registers;
+  statics = slice_set statics (place_of d f) (slice_index registers a);
+  printed = [];
+  returns = false;
+}
 effect_of d (Invoke how m regs) registers statics = record {
-    registers = registers; statics = statics; printed = printed_int (slice_index registers (only regs)); returns = false
-  }
+  registers = registers;
+  statics = statics;
+  printed = printed_int (slice_index registers (only regs));
+  returns = false;
+}
 effect_of d ReturnVoid registers statics = record { registers = registers; statics = statics; printed = []; returns = true }
 effect_of d _ registers statics = record { registers = registers; statics = statics; printed = []; returns = true }

@@ -31,7 +31,13 @@ fn advance<O: Sink>(
     let count = code.insns.len();
     prove!(frame.line < count);
     let line = code.insns.at(frame.line);
-    let returned = perform(class, &line.insn, frame.registers.as_mut_slice(), statics, out)?;
+    let returned = perform(
+        class,
+        &line.insn,
+        frame.registers.as_mut_slice(),
+        statics,
+        out,
+    )?;
     if !returned {
         frame.line += 1;
     }

@@ -11,14 +11,14 @@ pub returns-then-made-limit-clause-ends : goal.returns-then-made-limit-clause-en
 returns-then-made-limit-clause-ends g c =
     let goes : is_over c.steps.place.stage ≡ false = cc in
     let end : PlainEnds (view_of c.args.small.now) c.args.limit (plain_of c.steps.place) c.steps.made c.steps.invariant.run.out (finished StepLimit c.steps.invariant.run.out c.steps.made) =
-      ends_limited _ _ _ _ _ goes c.if-made-limit.true in
+    ends_limited _ _ _ _ _ goes c.if-made-limit.true in
     (finished StepLimit c.steps.invariant.run.out c.steps.made, (c.steps.invariant.run.back _ end, (refl, refl, c.steps.invariant.run.printed)))
 
 pub returns-clause-ends : goal.returns-clause-ends
 returns-clause-ends g c =
     let over : is_over c.steps.place.stage ≡ true = cc in
     let end : PlainEnds (view_of c.args.small.now) c.args.limit (plain_of c.steps.place) c.steps.made c.steps.invariant.run.out (finished Returned c.steps.invariant.run.out c.steps.made) =
-      ends_over _ _ _ _ _ over in
+    ends_over _ _ _ _ _ over in
     (finished Returned c.steps.invariant.run.out c.steps.made, (c.steps.invariant.run.back _ end, (refl, refl, c.steps.invariant.run.printed)))
 
 pub steps-preserved : goal.steps-preserved
@@ -26,7 +26,7 @@ steps-preserved g c =
     let goes : is_over c.steps.place.stage ≡ false = cc in
     record {
       run = so_far_on _ _ _ _ _ _ _ _ _ c.steps.invariant.run goes c.if-made-limit.false c.in-Ok.ensures.state c.in-Ok.ensures.whole;
-      faults = c.in-Ok.ensures.faults ∙ c.steps.invariant.faults
+      faults = c.in-Ok.ensures.faults ∙ c.steps.invariant.faults;
     }
 
 pub returns-in-Err-clause-ends : goal.returns-in-Err-clause-ends

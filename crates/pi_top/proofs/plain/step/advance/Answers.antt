@@ -10,7 +10,7 @@ use Rattle.pi_top.proofs.plain.step.advance.Goals as goal
 pub perform-requires-clause-fits : goal.perform-requires-clause-fits
 perform-requires-clause-fits g c =
     let fits : list_all (line_fits c.args.class.now (length c.frame.inside.registers.items)) c.args.code.now.insns ≡ true =
-      subst (λ (f : Registers). list_all (line_fits c.args.class.now (length f.words)) c.args.code.now.insns ≡ true) (sym c.frame.view_is) c.requires.fits.fits in
+    subst (λ (f : Registers). list_all (line_fits c.args.class.now (length f.words)) c.args.code.now.insns ≡ true) (sym c.frame.view_is) c.requires.fits.fits in
     let here : insn_fits c.args.class.now (length c.frame.inside.registers.items) c.at-line.result.now.insn ≡ true =
-      list_all-get (line_fits c.args.class.now (length c.frame.inside.registers.items)) c.args.code.now.insns c.frame.inside.line c.at-line.result.now fits c.at-line.ensures in
+    list_all-get (line_fits c.args.class.now (length c.frame.inside.registers.items)) c.args.code.now.insns c.frame.inside.line c.at-line.result.now fits c.at-line.ensures in
     is_true _ (subst (λ (words : List ℕ). insn_fits c.args.class.now (length words) c.at-line.result.now.insn ≡ true) (sym c.as_mut_slice.ensures.value) here)
