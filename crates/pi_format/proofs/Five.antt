@@ -72,24 +72,36 @@ print_ref = record { class = out_name; name = print_name; params = int_name ∷ 
 
 clinit_code : Code
 clinit_code = record {
-    regs = 1; ins = 0; outs = 0; units = 4; tries = [];
-    insns = line 0 1 (Const 0 5) ∷ line 1 2 (Sput Plain 0 x_field) ∷ line 3 1 ReturnVoid ∷ []
-  }
+  regs = 1;
+  ins = 0;
+  outs = 0;
+  units = 4;
+  tries = [];
+  insns = line 0 1 (Const 0 5) ∷ line 1 2 (Sput Plain 0 x_field) ∷ line 3 1 ReturnVoid ∷ [];
+}
 
 main_code : Code
 main_code = record {
-    regs = 2; ins = 1; outs = 1; units = 6; tries = [];
-    insns = line 0 2 (Sget Plain 0 x_field) ∷ line 2 3 (Invoke Static print_ref (0 ∷ [])) ∷ line 5 1 ReturnVoid ∷ []
-  }
+  regs = 2;
+  ins = 1;
+  outs = 1;
+  units = 6;
+  tries = [];
+  insns = line 0 2 (Sget Plain 0 x_field) ∷ line 2 3 (Invoke Static print_ref (0 ∷ [])) ∷ line 5 1 ReturnVoid ∷ [];
+}
 
 five_class : ClassDesc
 five_class = record {
-    file = record { 0 = 1 }; name = name_no 8; flags = 1; parent = Some object_name; faces = [];
-    fields = record { name = name_no 11; ty = int_name; flags = 8; init = Zero } ∷ [];
-    methods =
+  file = record { 0 = 1 };
+  name = name_no 8;
+  flags = 1;
+  parent = Some object_name;
+  faces = [];
+  fields = record { name = name_no 11; ty = int_name; flags = 8; init = Zero } ∷ [];
+  methods =
       record { name = clinit_name; params = []; ret = void_name; flags = 0x10008; code = Some clinit_code }
-      ∷ record { name = main_name; params = strings_name ∷ []; ret = void_name; flags = 9; code = Some main_code } ∷ []
-  }
+      ∷ record { name = main_name; params = strings_name ∷ []; ret = void_name; flags = 9; code = Some main_code } ∷ [];
+}
 
 five_says : small_program (codes "LT;") five_bytes ≡ Some (small_chain (codes "LT;" ∷ codes "VI" ∷ codes "VL" ∷ codes "x" ∷ []) five_class)
 unfolding five_bytes line x_field print_ref clinit_code main_code five_class small_program small_class header_holds tables_hold table_holds text_at string_at core_names uleb_at type_at type_list_at field_at proto_at method_at insn_at code_at field_row method_row members_at class_at

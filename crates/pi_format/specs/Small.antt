@@ -113,9 +113,9 @@ class_fits d =
 abbrev pub has_text : List (List ℕ) → NameNo → List ℕ → Bool
 has_text names n text = is_text (slice_get names n.0)
   where
-  is_text : Option (List ℕ) → Bool
-  is_text None = false
-  is_text (Some units) = same_text units text
+    is_text : Option (List ℕ) → Bool
+    is_text None = false
+    is_text (Some units) = same_text units text
 
 -- the program of the first file and one more, which has these new names and this class
 abbrev pub small_chain : List (List ℕ) → ClassDesc → Program
