@@ -2,4 +2,4 @@
 // commands, and docs/machine.md the machine whose runs they make.
 #![tactic(auto)]
 
-mod plain;
+mod words;
