@@ -1,20 +1,42 @@
 -- What the top call answers, beside what its words owe.
-use Rattle.std.specs.Prelude.{◌≡◌, ℕ, List, [], ◌∷◌, ◌++◌, Option, Some, None, Bool, true, false, IsTrue, ◌⊎◌}
-use Rattle.pi_base.specs.declared.status.Status.{Status}
-use Rattle.pi_base.specs.declared.status.Status.TheVariants.{Done, Uncaught, Usage, Missing, ReadFault, WriteFault, Dex, Verify, Link, Image, Bases, Job, Asm, Steps, Heap, Frames, OutFault, TooLarge, Memory, NotBuilt, Unprintable, Rebase, Differs}
+use Rattle.std.specs.Prelude.{◌≡◌, ℕ, List, [], ◌∷◌, ◌++◌, Option, Some, None, Result, Ok, Err, Bool, true, false, IsTrue, ◌⊎◌}
 use Rattle.pi_base.specs.Outside.{Rose, grown, Begins}
 use Rattle.pi_model.specs.Program.{Program}
 use Rattle.pi_machine.specs.Start.{main_of}
-use Rattle.pi_machine.specs.Ends.{End, Finish, Returned, StepLimit, EndsWith}
+use Rattle.pi_machine.specs.Ends as ends
+use Rattle.pi_machine.specs.Ends.{End, Finish, EndsWith}
 use Rattle.pi_duty.specs.Duty.{Contents, Owed, Owes, lazy_setting}
+use Rattle.pi_top.specs.declared.small_stub.RunEnd.{RunEnd}
+use Rattle.pi_top.specs.declared.small_stub.RunEnd.TheVariants.{Returned, Limited, OutFault}
 
 -- a line was told whole and no fault rose, or a front of it was told and a fault rose
 abbrev pub Told : List ℕ → Option (List ℕ) → Option (List ℕ) → ℕ → ℕ → Type 0
 Told line before now faults faults_now =
     ((now ≡ grown before line) × (faults_now ≡ faults)) ⊎ (Begins line before now × Rose faults faults_now)
 
+-- the same of a piece whose writing answers which of the two it is
+abbrev pub Puts : {A E : Type 0} → List ℕ → Result A E → Option (List ℕ) → Option (List ℕ) → ℕ → ℕ → Type 0
+Puts piece (Ok _) before now faults faults_now = (now ≡ grown before piece) × (faults_now ≡ faults)
+Puts piece (Err _) before now faults faults_now = Begins piece before now × Rose faults faults_now
+
 -- the run of a program for the main class of a descriptor ends so, under the limits of a lazy run
 pub record RunEnds (p : Program) (main : List ℕ) (steps : ℕ) (f : Finish) : Type 0 where
   pub method : ℕ
   pub found : main_of p main ≡ Some method
   pub ends : EndsWith p (lazy_setting steps) method [] f
+
+-- what the answer of a run says of its end, and of what it wrote
+abbrev pub AnswersRun : RunEnd → Finish → Option (List ℕ) → Option (List ℕ) → Type 0
+AnswersRun (Returned n) f before now = (f.end ≡ ends.Returned) × (f.steps ≡ n) × (now ≡ grown before f.output)
+AnswersRun (Limited n) f before now = (f.end ≡ ends.StepLimit) × (f.steps ≡ n) × (now ≡ grown before f.output)
+AnswersRun OutFault f before now = Begins f.output before now
+
+abbrev pub is_out_fault_end : RunEnd → Bool
+is_out_fault_end (Returned n) = false
+is_out_fault_end (Limited n) = false
+is_out_fault_end OutFault = true
+
+-- the same of a call's answer
+abbrev pub is_out_fault : {E : Type 0} → Result RunEnd E → Bool
+is_out_fault (Ok end) = is_out_fault_end end
+is_out_fault (Err _) = false

@@ -2,4 +2,6 @@
 // commands, and docs/machine.md the machine whose runs they make.
 #![tactic(auto)]
 
+mod lines;
+mod small_stub;
 mod words;
