@@ -1,11 +1,16 @@
 -- What the top call answers, beside what its words owe.
-use Rattle.std.specs.Prelude.{◌≡◌, ℕ, List, [], ◌∷◌, ◌++◌, Option, Some, None, Result, Ok, Err, Bool, true, false, IsTrue, ◌⊎◌}
+use Rattle.std.specs.Prelude.{◌≡◌, ℕ, List, [], ◌∷◌, ◌++◌, Option, Some, None, Result, Ok, Err, Bool, true, false, IsTrue, ◌⊎◌, ◌||◌, ◌==◌, nat_eq}
+use Rattle.pi_base.specs.declared.status.Status.{Status}
+use Rattle.pi_base.specs.declared.status.Status.TheVariants as statuses
+use Rattle.pi_base.specs.declared.status.Status.TheVariants.{Done, Usage, Missing, ReadFault, Steps, TooLarge, Memory, NotBuilt}
+use Rattle.pi_base.specs.Status.{code_of}
 use Rattle.pi_base.specs.Outside.{Rose, grown, Begins}
 use Rattle.pi_model.specs.Program.{Program}
 use Rattle.pi_machine.specs.Start.{main_of}
 use Rattle.pi_machine.specs.Ends as ends
 use Rattle.pi_machine.specs.Ends.{End, Finish, EndsWith}
-use Rattle.pi_duty.specs.Duty.{Contents, Owed, Owes, lazy_setting}
+use Rattle.pi_duty.specs.Words.{LazyWords}
+use Rattle.pi_duty.specs.Duty.{Contents, Owed, CommandOwes, lazy_setting}
 use Rattle.pi_top.specs.declared.small_stub.RunEnd.{RunEnd}
 use Rattle.pi_top.specs.declared.small_stub.RunEnd.TheVariants.{Returned, Limited, OutFault}
 
@@ -40,3 +45,41 @@ is_out_fault_end OutFault = true
 abbrev pub is_out_fault : {E : Type 0} → Result RunEnd E → Bool
 is_out_fault (Ok end) = is_out_fault_end end
 is_out_fault (Err _) = false
+
+-- the two are the same status
+abbrev pub is_status : Status → Status → Bool
+is_status a b = code_of a == code_of b
+
+-- the statuses with which a command is answered as it owes
+abbrev pub is_owed : Status → Bool
+is_owed Done = true
+is_owed Usage = true
+is_owed Missing = true
+is_owed Steps = true
+is_owed TooLarge = true
+is_owed NotBuilt = true
+is_owed _ = false
+
+-- the statuses that come
+abbrev pub may_come : Status → Bool
+may_come status = is_owed status || (is_status status ReadFault || (is_status status statuses.OutFault || is_status status Memory))
+
+-- so a command owes over some store; where the store shows its contents, they are these
+pub record OwesOver (shown : Bool) (contents : Contents) (command : Option LazyWords) (o : Owed) : Type 0 where
+  pub store : Contents
+  pub as_shown : IsTrue shown → store ≡ contents
+  pub owes : CommandOwes command store o
+
+-- something that is owed has this status and these lines, and its output was written whole
+pub record Gives (owes : Owed → Type 0) (status : Status) (lines : List ℕ) (before now : Option (List ℕ)) : Type 0 where
+  pub owed : Owed
+  pub due : owes owed
+  pub has_status : owed.status ≡ status
+  pub has_lines : owed.lines ≡ lines
+  pub written : now ≡ grown before owed.output
+
+-- of the output of something that is owed a front was written
+pub record Cuts (owes : Owed → Type 0) (before now : Option (List ℕ)) : Type 0 where
+  pub owed : Owed
+  pub due : owes owed
+  pub begun : Begins owed.output before now

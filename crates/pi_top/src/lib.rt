@@ -2,6 +2,10 @@
 // commands, and docs/machine.md the machine whose runs they make.
 #![tactic(auto)]
 
+mod answer;
 mod lines;
+mod outcome;
 mod small_stub;
 mod words;
+
+pub use answer::tool;
