@@ -18,8 +18,8 @@ use Rattle.pi_top.specs.declared.small_stub.SmallFault.{SmallFault}
 use Rattle.pi_top.specs.declared.small_stub.SmallFault.TheVariants.{OutOfMemory, NotSmall}
 use Rattle.pi_top.specs.declared.outcome.Outcome.{Outcome}
 use Rattle.pi_top.specs.declared.outcome.Outcome.TheVariants.{Usage, Missing, ReadFault, TooLarge, Memory, NotBuilt, Ran}
-use Rattle.pi_top.specs.Answer.{RunEnds, AnswersRun, OwesOver, Gives, Cuts, is_owed}
-use Rattle.pi_top.specs.Outcome.{EndGives, FileGives, OutcomeGives, status_of, lines_of}
+use Rattle.pi_top.specs.Answer.{RunEnds, AnswersRun, OwesOver, Answered, is_owed}
+use Rattle.pi_top.specs.Outcome.{Gives, EndGives, FileGives, OutcomeGives, status_of, lines_of}
 
 run_owes : (p : Program) (steps : ℕ) (main : Option ℕ) (method : ℕ) (f : Finish) → main ≡ Some method → EndsWith p (lazy_setting steps) method [] f → RunOwes p steps main (ended p f)
 run_owes p steps None method f is h = absurd (cc)
@@ -62,19 +62,19 @@ long_owes l file long =
 -- what the answer of a run says of what is owed
 end_gives : (owes : Owed → Type 0) (p : Program) (end : RunEnd) (f : Finish) (before now : Option (List ℕ)) → owes (ended p f) → AnswersRun end f before now → EndGives owes end before now
 end_gives owes p (Returned n) f before now due a = record {
-    owed = ended p f;
-    due = due;
-    has_status = ap end_status a.0;
-    has_lines = ap (λ e. end_lines p e ++ made_line f.steps) a.0 ∙ ap made_line a.1;
-    written = a.2;
-  }
+  owed = ended p f;
+  due = due;
+  has_status = ap end_status a.0;
+  told = ap (λ e. end_lines p e ++ made_line f.steps) a.0 ∙ ap made_line a.1;
+  written = a.2;
+}
 end_gives owes p (Limited n) f before now due a = record {
-    owed = ended p f;
-    due = due;
-    has_status = ap end_status a.0;
-    has_lines = ap (λ e. end_lines p e ++ made_line f.steps) a.0 ∙ ap (λ k. codes "limit steps\n" ++ made_line k) a.1;
-    written = a.2;
-  }
+  owed = ended p f;
+  due = due;
+  has_status = ap end_status a.0;
+  told = ap (λ e. end_lines p e ++ made_line f.steps) a.0 ∙ ap (λ k. codes "limit steps\n" ++ made_line k) a.1;
+  written = a.2;
+}
 end_gives owes p OutFault f before now due a = record { owed = ended p f; due = due; begun = a }
 
 pub run_gives : (name main text same file : List ℕ) (steps : ℕ) (p : Program) (end : RunEnd) (before now : Option (List ℕ)) → text ≡ main → same ≡ main → length file ≤ most_bytes → small_program text file ≡ Some p → ((f : Finish) × (RunEnds p same steps f × AnswersRun end f before now)) → EndGives (LazyOwes (record { file = name; main = main; steps = steps }) (Some file)) end before now
@@ -90,7 +90,7 @@ grown_nil (Some bytes) = ap (λ (b : List ℕ). Some b) (sym (append-nil bytes))
 
 -- a refusal is a line and nothing else
 refused_gives : (owes : Owed → Type 0) (status : Status) (line : List ℕ) (before : Option (List ℕ)) → owes (refused status line) → Gives owes status line before before
-refused_gives owes status line before due = record { owed = refused status line; due = due; has_status = refl; has_lines = refl; written = grown_nil before }
+refused_gives owes status line before due = record { owed = refused status line; due = due; has_status = refl; told = refl; written = grown_nil before }
 
 pub fault_gives : (name main text file : List ℕ) (steps : ℕ) (before : Option (List ℕ)) (fault : SmallFault) (r : Result RunEnd SmallFault) → r ≡ Err fault → text ≡ main → length file ≤ most_bytes → (fault ≡ NotSmall → small_program text file ≡ None) → FileGives (LazyOwes (record { file = name; main = main; steps = steps }) (Some file)) r before before
 fault_gives name main text file steps before fault (Ok end) e is short none = absurd (cc)
@@ -122,22 +122,22 @@ large_over false contents l h =
 
 -- what is said of one thing that is owed is said of another that it makes owed
 end_map : (P Q : Owed → Type 0) (end : RunEnd) (before now : Option (List ℕ)) → ((o : Owed) → P o → Q o) → EndGives P end before now → EndGives Q end before now
-end_map P Q (Returned n) before now k g = record { owed = g.owed; due = k g.owed g.due; has_status = g.has_status; has_lines = g.has_lines; written = g.written }
-end_map P Q (Limited n) before now k g = record { owed = g.owed; due = k g.owed g.due; has_status = g.has_status; has_lines = g.has_lines; written = g.written }
+end_map P Q (Returned n) before now k g = record { owed = g.owed; due = k g.owed g.due; has_status = g.has_status; told = g.told; written = g.written }
+end_map P Q (Limited n) before now k g = record { owed = g.owed; due = k g.owed g.due; has_status = g.has_status; told = g.told; written = g.written }
 end_map P Q OutFault before now k g = record { owed = g.owed; due = k g.owed g.due; begun = g.begun }
 
 pub file_over : (shown : Bool) (contents : Contents) (l : LazyWords) (file text : List ℕ) (r : Result RunEnd SmallFault) (before now : Option (List ℕ)) → text ≡ file → (IsTrue shown → contents l.file ≡ Some file) → FileGives (LazyOwes l (Some text)) r before now → FileGives (OwesOver shown contents (Some l)) r before now
 file_over shown contents l file text (Ok end) before now same h g =
     end_map (LazyOwes l (Some text)) (OwesOver shown contents (Some l)) end before now
-      (λ o due. over shown contents l (Some file) o h (subst (λ t. LazyOwes l (Some t) o) same due)) g
+    (λ o due. over shown contents l (Some file) o h (subst (λ t. LazyOwes l (Some t) o) same due)) g
 file_over shown contents l file text (Err OutOfMemory) before now same h g = g
 file_over shown contents l file text (Err NotSmall) before now same h g = record {
-    owed = g.owed;
-    due = over shown contents l (Some file) g.owed h (subst (λ t. LazyOwes l (Some t) g.owed) same g.due);
-    has_status = g.has_status;
-    has_lines = g.has_lines;
-    written = g.written;
-  }
+  owed = g.owed;
+  due = over shown contents l (Some file) g.owed h (subst (λ t. LazyOwes l (Some t) g.owed) same g.due);
+  has_status = g.has_status;
+  told = g.told;
+  written = g.written;
+}
 
 pub missing_gives : (shown : Bool) (contents : Contents) (l : LazyWords) (before : Option (List ℕ)) → (IsTrue shown → contents l.file ≡ None) → Gives (OwesOver shown contents (Some l)) statuses.Missing (missing_line l.file) before before
 missing_gives shown contents l before h = refused_gives _ _ _ before (over shown contents l None _ h refl)
@@ -150,14 +150,14 @@ usage_gives shown contents None before is = refused_gives _ _ _ before (record {
 usage_gives shown contents (Some l) before is = absurd (cc)
 
 module _ (shown : Bool) (contents : Contents) (command : Option LazyWords) (before now : Option (List ℕ)) (tells : List ℕ → Type 0) (status : Status) where
-  abbrev Owing : Type 0
-  Owing = (o : Owed) × (OwesOver shown contents command o × (o.status ≡ status) × (now ≡ grown before o.output) × tells o.lines)
+  abbrev Meets : Type 0
+  Meets = Answered (OwesOver shown contents command) status before now tells
 
-  given : (s : Status) (lines : List ℕ) → status ≡ s → tells lines → Gives (OwesOver shown contents command) s lines before now → Owing
-  given s lines e told g = (g.owed, (g.due, g.has_status ∙ sym e, g.written, subst tells (sym g.has_lines) told))
+  given : (s : Status) (lines : List ℕ) → status ≡ s → tells lines → Gives (OwesOver shown contents command) s lines before now → Meets
+  given s lines e told g = record { owed = g.owed; due = g.due; has_status = g.has_status ∙ sym e; written = g.written; told = subst tells (sym g.told) told }
 
   -- an answer that is not a fault is what is owed, and its lines were told
-  pub owed_of : (o : Outcome) → status ≡ status_of o → OutcomeGives shown contents command o before now → tells (lines_of o) → IsTrue (is_owed status) → Owing
+  pub owed_of : (o : Outcome) → status ≡ status_of o → OutcomeGives shown contents command o before now → tells (lines_of o) → IsTrue (is_owed status) → Meets
   owed_of Usage e g told due = given _ _ e told g
   owed_of (Missing name) e g told due = given _ _ e told g
   owed_of (ReadFault name) e g told due = let h : is_owed status ≡ false = ap is_owed e in absurd (cc)

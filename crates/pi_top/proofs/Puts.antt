@@ -1,5 +1,5 @@
 -- Pieces that are put one after another, and what is told of a line.
-use Rattle.std.proofs.Common.{◌≡◌, ℕ, ◌≤◌, List, [], ◌∷◌, ◌++◌, Option, Result, Ok, Err, refl, ap, sym, ◌∙◌, append_assoc, inl, inr, arith, subst}
+use Rattle.std.proofs.Common.{◌≡◌, ℕ, List, [], ◌∷◌, ◌++◌, Option, Result, Ok, Err, ap, sym, ◌∙◌, append_assoc, inl, inr, arith, subst}
 use Rattle.std.specs.Prelude.{IsErr}
 use Rattle.pi_base.specs.Outside.{Rose, grown, Begins}
 use Rattle.pi_base.proofs.Grown.{grown-grown}

@@ -1,5 +1,5 @@
 -- What the top call answers, beside what its words owe.
-use Rattle.std.specs.Prelude.{◌≡◌, ℕ, List, [], ◌∷◌, ◌++◌, Option, Some, None, Result, Ok, Err, Bool, true, false, IsTrue, ◌⊎◌, ◌||◌, ◌==◌, nat_eq}
+use Rattle.std.specs.Prelude.{◌≡◌, ℕ, List, [], Option, Some, Result, Ok, Err, Bool, true, false, IsTrue, ◌⊎◌, ◌||◌, ◌==◌}
 use Rattle.pi_base.specs.declared.status.Status.{Status}
 use Rattle.pi_base.specs.declared.status.Status.TheVariants as statuses
 use Rattle.pi_base.specs.declared.status.Status.TheVariants.{Done, Usage, Missing, ReadFault, Steps, TooLarge, Memory, NotBuilt}
@@ -70,16 +70,16 @@ pub record OwesOver (shown : Bool) (contents : Contents) (command : Option LazyW
   pub as_shown : IsTrue shown → store ≡ contents
   pub owes : CommandOwes command store o
 
--- something that is owed has this status and these lines, and its output was written whole
-pub record Gives (owes : Owed → Type 0) (status : Status) (lines : List ℕ) (before now : Option (List ℕ)) : Type 0 where
+-- something that is owed has this status, its output was written whole, and so its lines were told
+pub record Answered (Owing : Owed → Type 0) (status : Status) (before now : Option (List ℕ)) (Tells : List ℕ → Type 0) : Type 0 where
   pub owed : Owed
-  pub due : owes owed
+  pub due : Owing owed
   pub has_status : owed.status ≡ status
-  pub has_lines : owed.lines ≡ lines
   pub written : now ≡ grown before owed.output
+  pub told : Tells owed.lines
 
 -- of the output of something that is owed a front was written
-pub record Cuts (owes : Owed → Type 0) (before now : Option (List ℕ)) : Type 0 where
+pub record Cuts (Owing : Owed → Type 0) (before now : Option (List ℕ)) : Type 0 where
   pub owed : Owed
-  pub due : owes owed
+  pub due : Owing owed
   pub begun : Begins owed.output before now

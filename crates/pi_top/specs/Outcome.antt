@@ -11,7 +11,7 @@ use Rattle.pi_top.specs.declared.small_stub.SmallFault.{SmallFault}
 use Rattle.pi_top.specs.declared.small_stub.SmallFault.TheVariants.{OutOfMemory, NotSmall}
 use Rattle.pi_top.specs.declared.outcome.Outcome.{Outcome}
 use Rattle.pi_top.specs.declared.outcome.Outcome.TheVariants.{Usage, Missing, ReadFault, TooLarge, Memory, NotBuilt, Ran}
-use Rattle.pi_top.specs.Answer.{OwesOver, Gives, Cuts}
+use Rattle.pi_top.specs.Answer.{OwesOver, Answered, Cuts}
 
 abbrev pub status_of_end : RunEnd → Status
 status_of_end (Returned steps) = statuses.Done
@@ -41,17 +41,21 @@ lines_of Memory = memory_line
 lines_of NotBuilt = not_built_line
 lines_of (Ran end) = lines_of_end end
 
+-- something that is owed has this status and these lines, and its output was written whole
+abbrev pub Gives : (Owed → Type 0) → Status → List ℕ → Option (List ℕ) → Option (List ℕ) → Type 0
+Gives Owing status lines before now = Answered Owing status before now (λ told. told ≡ lines)
+
 -- what the end of a run says of what is owed
 abbrev pub EndGives : (Owed → Type 0) → RunEnd → Option (List ℕ) → Option (List ℕ) → Type 0
-EndGives owes (Returned steps) before now = Gives owes statuses.Done (made_line steps) before now
-EndGives owes (Limited steps) before now = Gives owes statuses.Steps (step_limit_line ++ made_line steps) before now
-EndGives owes OutFault before now = Cuts owes before now
+EndGives Owing (Returned steps) before now = Gives Owing statuses.Done (made_line steps) before now
+EndGives Owing (Limited steps) before now = Gives Owing statuses.Steps (step_limit_line ++ made_line steps) before now
+EndGives Owing OutFault before now = Cuts Owing before now
 
 -- the same of a file that was read
 abbrev pub FileGives : (Owed → Type 0) → Result RunEnd SmallFault → Option (List ℕ) → Option (List ℕ) → Type 0
-FileGives owes (Ok end) before now = EndGives owes end before now
-FileGives owes (Err NotSmall) before now = Gives owes statuses.NotBuilt not_built_line before now
-FileGives owes (Err OutOfMemory) before now = now ≡ before
+FileGives Owing (Ok end) before now = EndGives Owing end before now
+FileGives Owing (Err NotSmall) before now = Gives Owing statuses.NotBuilt not_built_line before now
+FileGives Owing (Err OutOfMemory) before now = now ≡ before
 
 -- the same of a command over a store
 abbrev pub OutcomeGives : Bool → Contents → Option LazyWords → Outcome → Option (List ℕ) → Option (List ℕ) → Type 0

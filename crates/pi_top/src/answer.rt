@@ -4,7 +4,7 @@ ghost use Rattle.pi_base.specs.Outside.{Begins, Counts, grown};
 ghost use Rattle.pi_duty.specs.Words.{LazyWords, lazy_words};
 ghost use Rattle.pi_duty.specs.Lines.{memory_line, out_fault_line, read_fault_line};
 ghost use Rattle.pi_duty.specs.Duty.{LazyOwes, Owed};
-ghost use Rattle.pi_top.specs.Answer.{Cuts, OwesOver, Told, is_out_fault, is_owed, is_status, may_come};
+ghost use Rattle.pi_top.specs.Answer.{Answered, Cuts, OwesOver, Told, is_out_fault, is_owed, is_status, may_come};
 ghost use Rattle.pi_top.specs.Outcome.{FileGives, OutcomeGives, status_of};
 
 use crate::outcome::Outcome;
@@ -20,16 +20,22 @@ const MOST_BYTES: usize = 16_777_216;
 
 /// Does what the words of a command ask, over a store and two sinks: its output goes to `out`, and the lines that tell how
 /// it ended go to `err`. Want of memory comes only before a run.
-pub fn tool<S: Store, O: Sink, E: Sink>(alloc: Global, words: &Vec<String>, store: &mut S, out: &mut O, err: &mut E) -> Status
+pub fn tool<S: Store, O: Sink, E: Sink>(
+    alloc: Global,
+    words: &Vec<String>,
+    store: &mut S,
+    out: &mut O,
+    err: &mut E,
+) -> Status
     // the words' duty: status, output and lines are what the command owes
-    ensures owed { IsTrue (is_owed result) → ((o : Owed) × (OwesOver (S.shown store.old) (S.contents store.old) (lazy_words (map string_bytes words.now.items)) o × (o.status ≡ result) × (O.bytes out.new ≡ grown (O.bytes out.old) o.output) × Told o.lines (E.bytes err.old) (E.bytes err.new) (E.faults err.old) (E.faults err.new))) }
+    ensures owed { IsTrue (is_owed result) → Answered (OwesOver (S.shown store.old) (S.contents store.old) (lazy_words (map string_bytes words.now.items))) result (O.bytes out.old) (O.bytes out.new) (λ lines. Told lines (E.bytes err.old) (E.bytes err.new) (E.faults err.old) (E.faults err.new)) }
     ensures usage { (result ≡ Status.Usage) ↔ (lazy_words (map string_bytes words.now.items) ≡ None) }
     ensures comes { IsTrue (may_come result) }
 
     // where it is not met, what was written is a front of what is owed
     ensures out_fault { result ≡ Status.OutFault → Cuts (OwesOver (S.shown store.old) (S.contents store.old) (lazy_words (map string_bytes words.now.items))) (O.bytes out.old) (O.bytes out.new) }
-    ensures read_fault { result ≡ Status.ReadFault → O.bytes out.new ≡ O.bytes out.old }
-    ensures memory { result ≡ Status.Memory → O.bytes out.new ≡ O.bytes out.old }
+    ensures read_fault_silent { result ≡ Status.ReadFault → O.bytes out.new ≡ O.bytes out.old }
+    ensures memory_silent { result ≡ Status.Memory → O.bytes out.new ≡ O.bytes out.old }
     ensures out_fault_told { result ≡ Status.OutFault → Told out_fault_line (E.bytes err.old) (E.bytes err.new) (E.faults err.old) (E.faults err.new) }
     ensures read_fault_told { result ≡ Status.ReadFault → IsSomeAnd (lazy_words (map string_bytes words.now.items)) (λ l. Told (read_fault_line l.file) (E.bytes err.old) (E.bytes err.new) (E.faults err.old) (E.faults err.new)) }
     ensures memory_told { result ≡ Status.Memory → Told memory_line (E.bytes err.old) (E.bytes err.new) (E.faults err.old) (E.faults err.new) }
@@ -51,7 +57,12 @@ pub fn tool<S: Store, O: Sink, E: Sink>(alloc: Global, words: &Vec<String>, stor
     outcome.status()
 }
 
-fn answer<'a, S: Store, O: Sink>(alloc: Global, words: &'a Vec<String>, store: &mut S, out: &mut O) -> Outcome<'a>
+fn answer<'a, S: Store, O: Sink>(
+    alloc: Global,
+    words: &'a Vec<String>,
+    store: &mut S,
+    out: &mut O,
+) -> Outcome<'a>
     ensures gives { OutcomeGives (S.shown store.old) (S.contents store.old) (lazy_words (map string_bytes words.now.items)) result (O.bytes out.old) (O.bytes out.new) }
     ensures usage { (status_of result ≡ Status.Usage) ↔ (lazy_words (map string_bytes words.now.items) ≡ None) }
     ensures misses { Counts (is_status (status_of result) Status.Missing) (S.misses store.old) (S.misses store.new) }
@@ -69,7 +80,12 @@ fn answer<'a, S: Store, O: Sink>(alloc: Global, words: &'a Vec<String>, store: &
     }
 }
 
-fn answer_lazy<'a, S: Store, O: Sink>(alloc: Global, call: LazyCall<'a>, store: &mut S, out: &mut O) -> Outcome<'a>
+fn answer_lazy<'a, S: Store, O: Sink>(
+    alloc: Global,
+    call: LazyCall<'a>,
+    store: &mut S,
+    out: &mut O,
+) -> Outcome<'a>
     ensures gives { OutcomeGives (S.shown store.old) (S.contents store.old) (Some record { file = call.entry.file.now; main = call.entry.main.now; steps = call.entry.steps }) result (O.bytes out.old) (O.bytes out.new) }
     ensures usage { is_status (status_of result) Status.Usage ≡ false }
     ensures misses { Counts (is_status (status_of result) Status.Missing) (S.misses store.old) (S.misses store.new) }
@@ -94,7 +110,13 @@ fn answer_lazy<'a, S: Store, O: Sink>(alloc: Global, call: LazyCall<'a>, store: 
     }
 }
 
-fn run_file<O: Sink>(alloc: Global, main: &str, steps: u64, file: &[u8], out: &mut O) -> Result<RunEnd, SmallFault>
+fn run_file<O: Sink>(
+    alloc: Global,
+    main: &str,
+    steps: u64,
+    file: &[u8],
+    out: &mut O,
+) -> Result<RunEnd, SmallFault>
     requires { length file.now ≤ 16777216 }
     ensures gives { (name : List ℕ) → FileGives (LazyOwes (record { file = name; main = main.now; steps = steps }) (Some file.now)) result (O.bytes out.old) (O.bytes out.new) }
     ensures out_faults { Counts (is_out_fault result) (O.faults out.old) (O.faults out.new) }

@@ -53,7 +53,12 @@ fn put_made<E: Sink>(err: &mut E, steps: u64) -> Result<(), SinkError>
     put_three(err, b"made ", buffer.format(steps).as_bytes(), b" steps\n")
 }
 
-fn put_three<E: Sink>(err: &mut E, first: &[u8], second: &[u8], third: &[u8]) -> Result<(), SinkError>
+fn put_three<E: Sink>(
+    err: &mut E,
+    first: &[u8],
+    second: &[u8],
+    third: &[u8],
+) -> Result<(), SinkError>
     ensures { Puts (first.now ++ second.now ++ third.now) result (E.bytes err.old) (E.bytes err.new) (E.faults err.old) (E.faults err.new) }
 {
     put_two(err, first, second)?;

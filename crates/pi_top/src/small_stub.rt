@@ -48,7 +48,13 @@ pub fn read_small(_alloc: Global, main: &[u8], file: &[u8]) -> Result<Prog, Smal
 }
 
 /// Runs the program of a small file for its main class, and writes what it prints to `out`.
-pub fn run_small<O: Sink>(_alloc: Global, main: &[u8], prog: &Prog, steps: u64, out: &mut O) -> Result<RunEnd, AllocError>
+pub fn run_small<O: Sink>(
+    _alloc: Global,
+    main: &[u8],
+    prog: &Prog,
+    steps: u64,
+    out: &mut O,
+) -> Result<RunEnd, AllocError>
     requires { IsSmall main.now prog.now }
     ensures ends { IfOk result (λ end. (f : Finish) × (RunEnds prog.now main.now steps f × AnswersRun end f (O.bytes out.old) (O.bytes out.new))) }
     ensures memory { OnErr result (O.bytes out.new ≡ O.bytes out.old) }

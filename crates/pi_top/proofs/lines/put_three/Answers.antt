@@ -1,5 +1,4 @@
-use Rattle.std.proofs.Common.{◌++◌, codes}
-use Rattle.pi_duty.specs.Lines.{made_line, step_limit_line}
+use Rattle.std.proofs.Common.{◌++◌}
 use Rattle.pi_top.proofs.Puts.{puts_stops, puts_then}
 use Rattle.pi_top.proofs.lines.put_three.Goals as goal
 

@@ -1,5 +1,3 @@
-use Rattle.std.proofs.Common.{◌++◌, codes}
-use Rattle.pi_duty.specs.Lines.{made_line, step_limit_line}
 use Rattle.pi_top.proofs.Puts.{puts_stops, puts_then}
 use Rattle.pi_top.proofs.lines.put_two.Goals as goal
 
