@@ -12,13 +12,14 @@ use Rattle.pi_machine.specs.Ends.{Finish, EndsWith}
 use Rattle.pi_duty.specs.Words.{LazyWords}
 use Rattle.pi_duty.specs.Lines.{usage_line, missing_line, read_fault_line, made_line, too_large_line}
 use Rattle.pi_duty.specs.Duty.{Contents, Owed, RunOwes, FileOwes, LengthOwes, LazyOwes, ended, end_status, end_lines, lazy_setting, most_bytes, refused}
-use Rattle.pi_top.specs.declared.small_stub.RunEnd.{RunEnd}
-use Rattle.pi_top.specs.declared.small_stub.RunEnd.TheVariants.{Returned, Limited, OutFault}
-use Rattle.pi_top.specs.declared.small_stub.SmallFault.{SmallFault}
-use Rattle.pi_top.specs.declared.small_stub.SmallFault.TheVariants.{OutOfMemory, NotSmall}
+use Rattle.pi_top.specs.declared.run_end.RunEnd.{RunEnd}
+use Rattle.pi_top.specs.declared.run_end.RunEnd.TheVariants.{Returned, Limited, OutFault}
+use Rattle.pi_top.specs.declared.read_stub.SmallFault.{SmallFault}
+use Rattle.pi_top.specs.declared.read_stub.SmallFault.TheVariants.{OutOfMemory, NotSmall}
 use Rattle.pi_top.specs.declared.outcome.Outcome.{Outcome}
 use Rattle.pi_top.specs.declared.outcome.Outcome.TheVariants.{Usage, Missing, ReadFault, TooLarge, Memory, NotBuilt, Ran}
 use Rattle.pi_top.specs.Answer.{RunEnds, AnswersRun, OwesOver, Answered, is_owed}
+use Rattle.pi_top.specs.Says.{Says}
 use Rattle.pi_top.specs.Outcome.{Gives, EndGives, FileGives, OutcomeGives, status_of, lines_of}
 
 run_owes : (p : Program) (steps : ℕ) (main : Option ℕ) (method : ℕ) (f : Finish) → main ≡ Some method → EndsWith p (lazy_setting steps) method [] f → RunOwes p steps main (ended p f)
@@ -92,13 +93,13 @@ grown_nil (Some bytes) = ap (λ (b : List ℕ). Some b) (sym (append-nil bytes))
 refused_gives : (owes : Owed → Type 0) (status : Status) (line : List ℕ) (before : Option (List ℕ)) → owes (refused status line) → Gives owes status line before before
 refused_gives owes status line before due = record { owed = refused status line; due = due; has_status = refl; told = refl; written = grown_nil before }
 
-pub fault_gives : (name main text file : List ℕ) (steps : ℕ) (before : Option (List ℕ)) (fault : SmallFault) (r : Result RunEnd SmallFault) → r ≡ Err fault → text ≡ main → length file ≤ most_bytes → (fault ≡ NotSmall → small_program text file ≡ None) → FileGives (LazyOwes (record { file = name; main = main; steps = steps }) (Some file)) r before before
-fault_gives name main text file steps before fault (Ok end) e is short none = absurd (cc)
-fault_gives name main text file steps before fault (Err OutOfMemory) e is short none = refl
-fault_gives name main text file steps before fault (Err NotSmall) e is short none =
+pub fault_gives : (name main text file : List ℕ) (steps : ℕ) (before : Option (List ℕ)) (fault : SmallFault) (r : Result RunEnd SmallFault) → r ≡ Err fault → text ≡ main → length file ≤ most_bytes → Says (small_program text file) (Err fault) → FileGives (LazyOwes (record { file = name; main = main; steps = steps }) (Some file)) r before before
+fault_gives name main text file steps before fault (Ok end) e is short says = absurd (cc)
+fault_gives name main text file steps before fault (Err OutOfMemory) e is short says = refl
+fault_gives name main text file steps before fault (Err NotSmall) e is short says =
     let same : fault ≡ NotSmall = cc in
     let l : LazyWords = record { file = name; main = main; steps = steps } in
-    let none' : small_program main file ≡ None = subst (λ m. small_program m file ≡ None) is (none same) in
+    let none' : small_program main file ≡ None = subst (λ m. small_program m file ≡ None) is (subst (λ f. Says (small_program text file) (Err f)) same says) in
     refused_gives _ _ _ before (short_owes l file _ short (none_owes l (small_program main file) none'))
 
 -- a store that shows what was found, or that shows nothing

@@ -11,8 +11,8 @@ use Rattle.pi_machine.specs.Ends as ends
 use Rattle.pi_machine.specs.Ends.{End, Finish, EndsWith}
 use Rattle.pi_duty.specs.Words.{LazyWords}
 use Rattle.pi_duty.specs.Duty.{Contents, Owed, CommandOwes, lazy_setting}
-use Rattle.pi_top.specs.declared.small_stub.RunEnd.{RunEnd}
-use Rattle.pi_top.specs.declared.small_stub.RunEnd.TheVariants.{Returned, Limited, OutFault}
+use Rattle.pi_top.specs.declared.run_end.RunEnd.{RunEnd}
+use Rattle.pi_top.specs.declared.run_end.RunEnd.TheVariants.{Returned, Limited, OutFault}
 
 -- a line was told whole and no fault rose, or a front of it was told and a fault rose
 abbrev pub Told : List ℕ → Option (List ℕ) → Option (List ℕ) → ℕ → ℕ → Type 0

@@ -8,7 +8,9 @@ ghost use Rattle.pi_top.specs.Answer.{Answered, Cuts, OwesOver, Told, is_out_fau
 ghost use Rattle.pi_top.specs.Outcome.{FileGives, OutcomeGives, status_of};
 
 use crate::outcome::Outcome;
-use crate::small_stub::{RunEnd, SmallFault, read_small, run_small};
+use crate::read_stub::{SmallFault, read_small};
+use crate::run_end::RunEnd;
+use crate::small_stub::run_small;
 use crate::words::{LazyCall, read_words};
 use pi_base::outside::{Sink, Store, StoreError};
 use pi_base::status::Status;

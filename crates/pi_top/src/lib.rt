@@ -5,7 +5,9 @@
 mod answer;
 mod lines;
 mod outcome;
+mod read_stub;
+mod run_end;
 mod small_stub;
-mod words;
+pub mod words;
 
 pub use answer::tool;

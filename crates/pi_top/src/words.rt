@@ -57,7 +57,8 @@ fn read_number(word: &str, most: u64) -> Option<u64>
     }
     match word.parse::<u64>() {
         Ok(number) if number <= most => Some(number),
-        _ => None,
+        Ok(_) => None,
+        Err(_) => None,
     }
 }
 
