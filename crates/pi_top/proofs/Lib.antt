@@ -1,3 +1,9 @@
+pub mod Lists
+pub mod Lookups
+pub mod MachineRows
 pub mod Owing
+pub mod PlainLaws
 pub mod Puts
+pub mod Roles
 pub mod Wording
+pub mod Words

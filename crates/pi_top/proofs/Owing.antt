@@ -12,8 +12,8 @@ use Rattle.pi_machine.specs.Ends.{Finish, EndsWith}
 use Rattle.pi_duty.specs.Words.{LazyWords}
 use Rattle.pi_duty.specs.Lines.{usage_line, missing_line, read_fault_line, made_line, too_large_line}
 use Rattle.pi_duty.specs.Duty.{Contents, Owed, RunOwes, FileOwes, LengthOwes, LazyOwes, ended, end_status, end_lines, lazy_setting, most_bytes, refused}
-use Rattle.pi_top.specs.declared.run_end.RunEnd.{RunEnd}
-use Rattle.pi_top.specs.declared.run_end.RunEnd.TheVariants.{Returned, Limited, OutFault}
+use Rattle.pi_top.specs.declared.plain.run.RunEnd.{RunEnd}
+use Rattle.pi_top.specs.declared.plain.run.RunEnd.TheVariants.{Returned, Limited, OutFault}
 use Rattle.pi_top.specs.declared.read_stub.SmallFault.{SmallFault}
 use Rattle.pi_top.specs.declared.read_stub.SmallFault.TheVariants.{OutOfMemory, NotSmall}
 use Rattle.pi_top.specs.declared.outcome.Outcome.{Outcome}

@@ -11,8 +11,8 @@ use Rattle.pi_machine.specs.Ends as ends
 use Rattle.pi_machine.specs.Ends.{End, Finish, EndsWith}
 use Rattle.pi_duty.specs.Words.{LazyWords}
 use Rattle.pi_duty.specs.Duty.{Contents, Owed, CommandOwes, lazy_setting}
-use Rattle.pi_top.specs.declared.run_end.RunEnd.{RunEnd}
-use Rattle.pi_top.specs.declared.run_end.RunEnd.TheVariants.{Returned, Limited, OutFault}
+use Rattle.pi_top.specs.declared.plain.run.RunEnd.{RunEnd}
+use Rattle.pi_top.specs.declared.plain.run.RunEnd.TheVariants.{Returned, Limited, OutFault}
 
 -- a line was told whole and no fault rose, or a front of it was told and a fault rose
 abbrev pub Told : List ℕ → Option (List ℕ) → Option (List ℕ) → ℕ → ℕ → Type 0
@@ -30,21 +30,21 @@ pub record RunEnds (p : Program) (main : List ℕ) (steps : ℕ) (f : Finish) : 
   pub found : main_of p main ≡ Some method
   pub ends : EndsWith p (lazy_setting steps) method [] f
 
--- what the answer of a run says of its end, and of what it wrote
+-- the answer of a run is that end, and its output was written whole, or a front of it where the sink failed
 abbrev pub AnswersRun : RunEnd → Finish → Option (List ℕ) → Option (List ℕ) → Type 0
 AnswersRun (Returned n) f before now = (f.end ≡ ends.Returned) × (f.steps ≡ n) × (now ≡ grown before f.output)
 AnswersRun (Limited n) f before now = (f.end ≡ ends.StepLimit) × (f.steps ≡ n) × (now ≡ grown before f.output)
 AnswersRun OutFault f before now = Begins f.output before now
 
-abbrev pub is_out_fault_end : RunEnd → Bool
-is_out_fault_end (Returned n) = false
-is_out_fault_end (Limited n) = false
-is_out_fault_end OutFault = true
+abbrev pub is_out_fault : RunEnd → Bool
+is_out_fault (Returned n) = false
+is_out_fault (Limited n) = false
+is_out_fault OutFault = true
 
--- the same of a call's answer
-abbrev pub is_out_fault : {E : Type 0} → Result RunEnd E → Bool
-is_out_fault (Ok end) = is_out_fault_end end
-is_out_fault (Err _) = false
+-- the same of a call that may want memory or refuse the file
+abbrev pub ends_in_out_fault : {E : Type 0} → Result RunEnd E → Bool
+ends_in_out_fault (Ok end) = is_out_fault end
+ends_in_out_fault (Err _) = false
 
 -- the two are the same status
 abbrev pub is_status : Status → Status → Bool

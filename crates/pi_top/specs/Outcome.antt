@@ -5,8 +5,8 @@ use Rattle.pi_base.specs.declared.status.Status.TheVariants as statuses
 use Rattle.pi_duty.specs.Words.{LazyWords}
 use Rattle.pi_duty.specs.Lines.{usage_line, missing_line, read_fault_line, too_large_line, memory_line, not_built_line, out_fault_line, step_limit_line, made_line}
 use Rattle.pi_duty.specs.Duty.{Contents, Owed}
-use Rattle.pi_top.specs.declared.run_end.RunEnd.{RunEnd}
-use Rattle.pi_top.specs.declared.run_end.RunEnd.TheVariants.{Returned, Limited, OutFault}
+use Rattle.pi_top.specs.declared.plain.run.RunEnd.{RunEnd}
+use Rattle.pi_top.specs.declared.plain.run.RunEnd.TheVariants.{Returned, Limited, OutFault}
 use Rattle.pi_top.specs.declared.read_stub.SmallFault.{SmallFault}
 use Rattle.pi_top.specs.declared.read_stub.SmallFault.TheVariants.{OutOfMemory, NotSmall}
 use Rattle.pi_top.specs.declared.outcome.Outcome.{Outcome}

@@ -4,14 +4,14 @@ ghost use Rattle.pi_base.specs.Outside.{Begins, Counts, grown};
 ghost use Rattle.pi_duty.specs.Words.{LazyWords, lazy_words};
 ghost use Rattle.pi_duty.specs.Lines.{memory_line, out_fault_line, read_fault_line};
 ghost use Rattle.pi_duty.specs.Duty.{LazyOwes, Owed};
-ghost use Rattle.pi_top.specs.Answer.{Answered, Cuts, OwesOver, Told, is_out_fault, is_owed, is_status, may_come};
+ghost use Rattle.pi_top.specs.Answer.{Answered, Cuts, OwesOver, Told, ends_in_out_fault, is_owed, is_status, may_come};
 ghost use Rattle.pi_top.specs.Outcome.{FileGives, OutcomeGives, status_of};
 
+use crate::command::{LazyCall, read_words};
 use crate::outcome::Outcome;
+use crate::plain::run::RunEnd;
 use crate::read_stub::{SmallFault, read_small};
-use crate::run_end::RunEnd;
 use crate::small_stub::run_small;
-use crate::words::{LazyCall, read_words};
 use pi_base::outside::{Sink, Store, StoreError};
 use pi_base::status::Status;
 use pi_format::small_shape;
@@ -121,7 +121,7 @@ fn run_file<O: Sink>(
 ) -> Result<RunEnd, SmallFault>
     requires { length file.now ≤ 16777216 }
     ensures gives { (name : List ℕ) → FileGives (LazyOwes (record { file = name; main = main.now; steps = steps }) (Some file.now)) result (O.bytes out.old) (O.bytes out.new) }
-    ensures out_faults { Counts (is_out_fault result) (O.faults out.old) (O.faults out.new) }
+    ensures out_faults { Counts (ends_in_out_fault result) (O.faults out.old) (O.faults out.new) }
 {
     let prog = read_small(alloc, main.as_bytes(), file)?;
     small_shape();

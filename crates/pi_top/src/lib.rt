@@ -3,11 +3,11 @@
 #![tactic(auto)]
 
 mod answer;
+pub mod command;
 mod lines;
 mod outcome;
+pub mod plain;
 mod read_stub;
-mod run_end;
 mod small_stub;
-pub mod words;
 
 pub use answer::tool;

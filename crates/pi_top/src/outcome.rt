@@ -3,7 +3,7 @@ ghost use Rattle.std.specs.Prelude.{◌≡◌};
 ghost use Rattle.pi_top.specs.Answer.{Told};
 
 use crate::lines::{tell, tell_limit, tell_made, tell_name};
-use crate::run_end::RunEnd;
+use crate::plain::run::RunEnd;
 use pi_base::outside::Sink;
 use pi_base::status::Status;
 

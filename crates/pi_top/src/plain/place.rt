@@ -1,6 +1,7 @@
 // Where a plain run stands, and what it works on.
 
 use pi_model::describe::{ClassDesc, Code};
+use std::marker::Model;
 
 /// How far the run has come.
 #[derive(Clone, Copy, PartialEq, Eq)]
@@ -28,6 +29,14 @@ pub enum Stage {
 pub struct Frame {
     pub line: usize,
     pub registers: Vec<u32>,
+}
+
+impl Model for Frame {
+    ghost use Rattle.pi_top.specs.Places.{Registers};
+
+    ghost Value = { Registers };
+
+    ghost view = { λ f. record { line = f.line; words = f.registers.items } };
 }
 
 /// The state of a plain run.
