@@ -9,5 +9,7 @@ mod outcome;
 pub mod plain;
 mod read_stub;
 mod small_stub;
+#[cfg(test)]
+mod tests;
 
 pub use answer::tool;
