@@ -1,18 +1,28 @@
 -- What the top call answers, beside what its words owe.
-use Rattle.std.specs.Prelude.{Result, Ok, Err, ◌≡◌, ℕ, List, [], ◌∷◌, ◌++◌, Option, Some, None, Bool, true, false, IsTrue, ◌⊎◌}
-use Rattle.pi_top.specs.declared.plain.run.RunEnd.{RunEnd}
-use Rattle.pi_top.specs.declared.plain.run.RunEnd.TheVariants.{Returned, Limited, OutFault}
+use Rattle.std.specs.Prelude.{◌≡◌, ℕ, List, [], Option, Some, Result, Ok, Err, Bool, true, false, IsTrue, ◌⊎◌, ◌||◌, ◌==◌}
+use Rattle.pi_base.specs.declared.status.Status.{Status}
+use Rattle.pi_base.specs.declared.status.Status.TheVariants as statuses
+use Rattle.pi_base.specs.declared.status.Status.TheVariants.{Done, Usage, Missing, ReadFault, Steps, TooLarge, Memory, NotBuilt}
+use Rattle.pi_base.specs.Status.{code_of}
 use Rattle.pi_base.specs.Outside.{Rose, grown, Begins}
 use Rattle.pi_model.specs.Program.{Program}
 use Rattle.pi_machine.specs.Start.{main_of}
 use Rattle.pi_machine.specs.Ends as ends
-use Rattle.pi_machine.specs.Ends.{Finish, EndsWith}
-use Rattle.pi_duty.specs.Duty.{Contents, Owed, Owes, lazy_setting}
+use Rattle.pi_machine.specs.Ends.{End, Finish, EndsWith}
+use Rattle.pi_duty.specs.Words.{LazyWords}
+use Rattle.pi_duty.specs.Duty.{Contents, Owed, CommandOwes, lazy_setting}
+use Rattle.pi_top.specs.declared.plain.run.RunEnd.{RunEnd}
+use Rattle.pi_top.specs.declared.plain.run.RunEnd.TheVariants.{Returned, Limited, OutFault}
 
 -- a line was told whole and no fault rose, or a front of it was told and a fault rose
 abbrev pub Told : List ℕ → Option (List ℕ) → Option (List ℕ) → ℕ → ℕ → Type 0
 Told line before now faults faults_now =
     ((now ≡ grown before line) × (faults_now ≡ faults)) ⊎ (Begins line before now × Rose faults faults_now)
+
+-- the same of a piece whose writing answers which of the two it is
+abbrev pub Puts : {A E : Type 0} → List ℕ → Result A E → Option (List ℕ) → Option (List ℕ) → ℕ → ℕ → Type 0
+Puts piece (Ok _) before now faults faults_now = (now ≡ grown before piece) × (faults_now ≡ faults)
+Puts piece (Err _) before now faults faults_now = Begins piece before now × Rose faults faults_now
 
 -- the run of a program for the main class of a descriptor ends so, under the limits of a lazy run
 pub record RunEnds (p : Program) (main : List ℕ) (steps : ℕ) (f : Finish) : Type 0 where
@@ -31,7 +41,45 @@ is_out_fault (Returned n) = false
 is_out_fault (Limited n) = false
 is_out_fault OutFault = true
 
--- the run met a fault of the output
+-- the same of a call that may want memory or refuse the file
 abbrev pub ends_in_out_fault : {E : Type 0} → Result RunEnd E → Bool
 ends_in_out_fault (Ok end) = is_out_fault end
-ends_in_out_fault (Err e) = false
+ends_in_out_fault (Err _) = false
+
+-- the two are the same status
+abbrev pub is_status : Status → Status → Bool
+is_status a b = code_of a == code_of b
+
+-- the statuses with which a command is answered as it owes
+abbrev pub is_owed : Status → Bool
+is_owed Done = true
+is_owed Usage = true
+is_owed Missing = true
+is_owed Steps = true
+is_owed TooLarge = true
+is_owed NotBuilt = true
+is_owed _ = false
+
+-- the statuses that come
+abbrev pub may_come : Status → Bool
+may_come status = is_owed status || (is_status status ReadFault || (is_status status statuses.OutFault || is_status status Memory))
+
+-- so a command owes over some store; where the store shows its contents, they are these
+pub record OwesOver (shown : Bool) (contents : Contents) (command : Option LazyWords) (o : Owed) : Type 0 where
+  pub store : Contents
+  pub as_shown : IsTrue shown → store ≡ contents
+  pub owes : CommandOwes command store o
+
+-- something that is owed has this status, its output was written whole, and so its lines were told
+pub record Answered (Owing : Owed → Type 0) (status : Status) (before now : Option (List ℕ)) (Tells : List ℕ → Type 0) : Type 0 where
+  pub owed : Owed
+  pub due : Owing owed
+  pub has_status : owed.status ≡ status
+  pub written : now ≡ grown before owed.output
+  pub told : Tells owed.lines
+
+-- of the output of something that is owed a front was written
+pub record Cuts (Owing : Owed → Type 0) (before now : Option (List ℕ)) : Type 0 where
+  pub owed : Owed
+  pub due : Owing owed
+  pub begun : Begins owed.output before now

@@ -1,6 +1,8 @@
 pub mod Answer
+pub mod Outcome
 pub mod Places
 pub mod Plain
 pub mod Roles
 pub mod Row
+pub mod Says
 pub mod Seen

@@ -2,4 +2,14 @@
 // commands, and docs/machine.md the machine whose runs they make.
 #![tactic(auto)]
 
+mod answer;
+pub mod command;
+mod lines;
+mod outcome;
 pub mod plain;
+mod read_stub;
+mod small_stub;
+#[cfg(test)]
+mod tests;
+
+pub use answer::tool;

@@ -1,0 +1,186 @@
+-- What a lazy run owes, by what was read and by how the run ended.
+use Rattle.std.proofs.Common.{◌≡◌, ℕ, zero, suc, ◌<◌, ◌≤◌, List, [], ◌∷◌, ◌++◌, length, Option, Some, None, Result, Ok, Err, Bool, true, false, IsTrue, refl, ap, sym, ◌∙◌, subst, arith, codes, append-nil}
+use Rattle.std.specs.Prelude.{nat_lt, IsSomeAnd}
+use Rattle.std.proofs.lemmas.Bool.Decides.{nat_tests}
+use Rattle.pi_base.specs.declared.status.Status.{Status}
+use Rattle.pi_base.specs.declared.status.Status.TheVariants as statuses
+use Rattle.pi_base.specs.Outside.{grown}
+use Rattle.pi_model.specs.Program.{Program}
+use Rattle.pi_format.specs.Small.{small_program}
+use Rattle.pi_machine.specs.Start.{main_of}
+use Rattle.pi_machine.specs.Ends.{Finish, EndsWith}
+use Rattle.pi_duty.specs.Words.{LazyWords}
+use Rattle.pi_duty.specs.Lines.{usage_line, missing_line, read_fault_line, made_line, too_large_line}
+use Rattle.pi_duty.specs.Duty.{Contents, Owed, RunOwes, FileOwes, LengthOwes, LazyOwes, ended, end_status, end_lines, lazy_setting, most_bytes, refused}
+use Rattle.pi_top.specs.declared.plain.run.RunEnd.{RunEnd}
+use Rattle.pi_top.specs.declared.plain.run.RunEnd.TheVariants.{Returned, Limited, OutFault}
+use Rattle.pi_top.specs.declared.read_stub.SmallFault.{SmallFault}
+use Rattle.pi_top.specs.declared.read_stub.SmallFault.TheVariants.{OutOfMemory, NotSmall}
+use Rattle.pi_top.specs.declared.outcome.Outcome.{Outcome}
+use Rattle.pi_top.specs.declared.outcome.Outcome.TheVariants.{Usage, Missing, ReadFault, TooLarge, Memory, NotBuilt, Ran}
+use Rattle.pi_top.specs.Answer.{RunEnds, AnswersRun, OwesOver, Answered, is_owed}
+use Rattle.pi_top.specs.Says.{Says}
+use Rattle.pi_top.specs.Outcome.{Gives, EndGives, FileGives, OutcomeGives, status_of, lines_of}
+
+run_owes : (p : Program) (steps : ℕ) (main : Option ℕ) (method : ℕ) (f : Finish) → main ≡ Some method → EndsWith p (lazy_setting steps) method [] f → RunOwes p steps main (ended p f)
+run_owes p steps None method f is h = absurd (cc)
+run_owes p steps (Some m) method f is h =
+    let e : method ≡ m = cc in
+    (f, (subst (λ k. EndsWith p (lazy_setting steps) k [] f) e h, refl))
+
+-- a small program owes what its run ends with
+file_owes : (l : LazyWords) (program : Option Program) (p : Program) (f : Finish) → program ≡ Some p → RunEnds p l.main l.steps f → FileOwes l program (ended p f)
+file_owes l None p f is h = absurd (cc)
+file_owes l (Some q) p f is h =
+    let e : p ≡ q = cc in
+    subst (λ r. RunOwes r l.steps (main_of r l.main) (ended p f)) e (run_owes p l.steps (main_of p l.main) h.method f h.found h.ends)
+
+-- a file that is not small owes a refusal
+none_owes : (l : LazyWords) (program : Option Program) → program ≡ None → FileOwes l program (refused statuses.NotBuilt (codes "not built\n"))
+none_owes l None is = refl
+none_owes l (Some q) is = absurd (cc)
+
+by_length : (long : Bool) (l : LazyWords) (file : List ℕ) (o : Owed) → long ≡ false → FileOwes l (small_program l.main file) o → LengthOwes long l file o
+by_length true l file o is h = absurd (cc)
+by_length false l file o is h = h
+
+-- a file within the limit owes what its content does
+short_owes : (l : LazyWords) (file : List ℕ) (o : Owed) → length file ≤ most_bytes → FileOwes l (small_program l.main file) o → LazyOwes l (Some file) o
+short_owes l file o short h =
+    let e : nat_lt most_bytes (length file) ≡ false = grind (arith, nat_tests) in
+    by_length _ l file o e h
+
+long_length : (long : Bool) (l : LazyWords) (file : List ℕ) → long ≡ true → LengthOwes long l file (refused statuses.TooLarge (too_large_line l.file))
+long_length true l file is = refl
+long_length false l file is = absurd (cc)
+
+-- and one past the limit a refusal
+long_owes : (l : LazyWords) (file : List ℕ) → most_bytes < length file → LazyOwes l (Some file) (refused statuses.TooLarge (too_large_line l.file))
+long_owes l file long =
+    let e : nat_lt most_bytes (length file) ≡ true = grind (arith, nat_tests) in
+    long_length _ l file e
+
+-- what the answer of a run says of what is owed
+end_gives : (owes : Owed → Type 0) (p : Program) (end : RunEnd) (f : Finish) (before now : Option (List ℕ)) → owes (ended p f) → AnswersRun end f before now → EndGives owes end before now
+end_gives owes p (Returned n) f before now due a = record {
+  owed = ended p f;
+  due = due;
+  has_status = ap end_status a.0;
+  told = ap (λ e. end_lines p e ++ made_line f.steps) a.0 ∙ ap made_line a.1;
+  written = a.2;
+}
+end_gives owes p (Limited n) f before now due a = record {
+  owed = ended p f;
+  due = due;
+  has_status = ap end_status a.0;
+  told = ap (λ e. end_lines p e ++ made_line f.steps) a.0 ∙ ap (λ k. codes "limit steps\n" ++ made_line k) a.1;
+  written = a.2;
+}
+end_gives owes p OutFault f before now due a = record { owed = ended p f; due = due; begun = a }
+
+pub run_gives : (name main text same file : List ℕ) (steps : ℕ) (p : Program) (end : RunEnd) (before now : Option (List ℕ)) → text ≡ main → same ≡ main → length file ≤ most_bytes → small_program text file ≡ Some p → ((f : Finish) × (RunEnds p same steps f × AnswersRun end f before now)) → EndGives (LazyOwes (record { file = name; main = main; steps = steps }) (Some file)) end before now
+run_gives name main text same file steps p end before now is also short small ends =
+    let l : LazyWords = record { file = name; main = main; steps = steps } in
+    let small' : small_program main file ≡ Some p = subst (λ m. small_program m file ≡ Some p) is small in
+    let h : RunEnds p main steps ends.0 = subst (λ m. RunEnds p m steps ends.0) also ends.1.0 in
+    end_gives (LazyOwes l (Some file)) p end ends.0 before now (short_owes l file _ short (file_owes l (small_program main file) p ends.0 small' h)) ends.1.1
+
+grown_nil : (before : Option (List ℕ)) → before ≡ grown before []
+grown_nil None = refl
+grown_nil (Some bytes) = ap (λ (b : List ℕ). Some b) (sym (append-nil bytes))
+
+-- a refusal is a line and nothing else
+refused_gives : (owes : Owed → Type 0) (status : Status) (line : List ℕ) (before : Option (List ℕ)) → owes (refused status line) → Gives owes status line before before
+refused_gives owes status line before due = record { owed = refused status line; due = due; has_status = refl; told = refl; written = grown_nil before }
+
+pub fault_gives : (name main text file : List ℕ) (steps : ℕ) (before : Option (List ℕ)) (fault : SmallFault) (r : Result RunEnd SmallFault) → r ≡ Err fault → text ≡ main → length file ≤ most_bytes → Says (small_program text file) (Err fault) → FileGives (LazyOwes (record { file = name; main = main; steps = steps }) (Some file)) r before before
+fault_gives name main text file steps before fault (Ok end) e is short says = absurd (cc)
+fault_gives name main text file steps before fault (Err OutOfMemory) e is short says = refl
+fault_gives name main text file steps before fault (Err NotSmall) e is short says =
+    let same : fault ≡ NotSmall = cc in
+    let l : LazyWords = record { file = name; main = main; steps = steps } in
+    let none' : small_program main file ≡ None = subst (λ m. small_program m file ≡ None) is (subst (λ f. Says (small_program text file) (Err f)) same says) in
+    refused_gives _ _ _ before (short_owes l file _ short (none_owes l (small_program main file) none'))
+
+-- a store that shows what was found, or that shows nothing
+over : (shown : Bool) (contents : Contents) (l : LazyWords) (found : Option (List ℕ)) (o : Owed) → (IsTrue shown → contents l.file ≡ found) → LazyOwes l found o → OwesOver shown contents (Some l) o
+over true contents l found o h due = record { store = contents; as_shown = λ _. refl; owes = subst (λ c. LazyOwes l c o) (sym (h refl)) due }
+over false contents l found o h due = record { store = λ _. found; as_shown = λ s. absurd (cc); owes = due }
+
+longer : (n : ℕ) → (xs : List ℕ) × (n < length xs)
+longer zero = (0 ∷ [], omega arith)
+longer (suc n) = (0 ∷ (longer n).0, omega (arith, (longer n).1))
+
+large_owes : (l : LazyWords) (found : Option (List ℕ)) → IsSomeAnd found (λ file. most_bytes < length file) → LazyOwes l found (refused statuses.TooLarge (too_large_line l.file))
+large_owes l None h = absurd h
+large_owes l (Some file) h = long_owes l file h
+
+large_over : (shown : Bool) (contents : Contents) (l : LazyWords) → (IsTrue shown → IsSomeAnd (contents l.file) (λ file. most_bytes < length file)) → OwesOver shown contents (Some l) (refused statuses.TooLarge (too_large_line l.file))
+large_over true contents l h = record { store = contents; as_shown = λ _. refl; owes = large_owes l (contents l.file) (h refl) }
+large_over false contents l h =
+    let other : (xs : List ℕ) × (most_bytes < length xs) = longer most_bytes in
+    record { store = λ _. Some other.0; as_shown = λ s. absurd (cc); owes = long_owes l other.0 other.1 }
+
+-- what is said of one thing that is owed is said of another that it makes owed
+end_map : (P Q : Owed → Type 0) (end : RunEnd) (before now : Option (List ℕ)) → ((o : Owed) → P o → Q o) → EndGives P end before now → EndGives Q end before now
+end_map P Q (Returned n) before now k g = record { owed = g.owed; due = k g.owed g.due; has_status = g.has_status; told = g.told; written = g.written }
+end_map P Q (Limited n) before now k g = record { owed = g.owed; due = k g.owed g.due; has_status = g.has_status; told = g.told; written = g.written }
+end_map P Q OutFault before now k g = record { owed = g.owed; due = k g.owed g.due; begun = g.begun }
+
+pub file_over : (shown : Bool) (contents : Contents) (l : LazyWords) (file text : List ℕ) (r : Result RunEnd SmallFault) (before now : Option (List ℕ)) → text ≡ file → (IsTrue shown → contents l.file ≡ Some file) → FileGives (LazyOwes l (Some text)) r before now → FileGives (OwesOver shown contents (Some l)) r before now
+file_over shown contents l file text (Ok end) before now same h g =
+    end_map (LazyOwes l (Some text)) (OwesOver shown contents (Some l)) end before now
+    (λ o due. over shown contents l (Some file) o h (subst (λ t. LazyOwes l (Some t) o) same due)) g
+file_over shown contents l file text (Err OutOfMemory) before now same h g = g
+file_over shown contents l file text (Err NotSmall) before now same h g = record {
+  owed = g.owed;
+  due = over shown contents l (Some file) g.owed h (subst (λ t. LazyOwes l (Some t) g.owed) same g.due);
+  has_status = g.has_status;
+  told = g.told;
+  written = g.written;
+}
+
+pub missing_gives : (shown : Bool) (contents : Contents) (l : LazyWords) (before : Option (List ℕ)) → (IsTrue shown → contents l.file ≡ None) → Gives (OwesOver shown contents (Some l)) statuses.Missing (missing_line l.file) before before
+missing_gives shown contents l before h = refused_gives _ _ _ before (over shown contents l None _ h refl)
+
+pub large_gives : (shown : Bool) (contents : Contents) (l : LazyWords) (before : Option (List ℕ)) → (IsTrue shown → IsSomeAnd (contents l.file) (λ file. most_bytes < length file)) → Gives (OwesOver shown contents (Some l)) statuses.TooLarge (too_large_line l.file) before before
+large_gives shown contents l before h = refused_gives _ _ _ before (large_over shown contents l h)
+
+pub usage_gives : (shown : Bool) (contents : Contents) (command : Option LazyWords) (before : Option (List ℕ)) → None ≡ command → Gives (OwesOver shown contents command) statuses.Usage usage_line before before
+usage_gives shown contents None before is = refused_gives _ _ _ before (record { store = contents; as_shown = λ _. refl; owes = refl })
+usage_gives shown contents (Some l) before is = absurd (cc)
+
+module _ (shown : Bool) (contents : Contents) (command : Option LazyWords) (before now : Option (List ℕ)) (tells : List ℕ → Type 0) (status : Status) where
+  abbrev Meets : Type 0
+  Meets = Answered (OwesOver shown contents command) status before now tells
+
+  given : (s : Status) (lines : List ℕ) → status ≡ s → tells lines → Gives (OwesOver shown contents command) s lines before now → Meets
+  given s lines e told g = record { owed = g.owed; due = g.due; has_status = g.has_status ∙ sym e; written = g.written; told = subst tells (sym g.told) told }
+
+  -- an answer that is not a fault is what is owed, and its lines were told
+  pub owed_of : (o : Outcome) → status ≡ status_of o → OutcomeGives shown contents command o before now → tells (lines_of o) → IsTrue (is_owed status) → Meets
+  owed_of Usage e g told due = given _ _ e told g
+  owed_of (Missing name) e g told due = given _ _ e told g
+  owed_of (ReadFault name) e g told due = let h : is_owed status ≡ false = ap is_owed e in absurd (cc)
+  owed_of (TooLarge name) e g told due = given _ _ e told g
+  owed_of Memory e g told due = let h : is_owed status ≡ false = ap is_owed e in absurd (cc)
+  owed_of NotBuilt e g told due = given _ _ e told g
+  owed_of (Ran (Returned steps)) e g told due = given _ _ e told g
+  owed_of (Ran (Limited steps)) e g told due = given _ _ e told g
+  owed_of (Ran OutFault) e g told due = let h : is_owed status ≡ false = ap is_owed e in absurd (cc)
+
+  named : (c : Option LazyWords) (name : List ℕ) → IsSomeAnd c (λ l. l.file ≡ name) → tells (read_fault_line name) → IsSomeAnd c (λ l. tells (read_fault_line l.file))
+  named None name h told = absurd h
+  named (Some l) name h told = subst (λ n. tells (read_fault_line n)) (sym h) told
+
+  -- a fault of a read is told by the name of the file
+  pub read_fault_of : (o : Outcome) → status ≡ status_of o → OutcomeGives shown contents command o before now → tells (lines_of o) → status ≡ statuses.ReadFault → IsSomeAnd command (λ l. tells (read_fault_line l.file))
+  read_fault_of Usage e g told is = absurd (cc)
+  read_fault_of (Missing name) e g told is = absurd (cc)
+  read_fault_of (ReadFault name) e g told is = named command name.now g.1 told
+  read_fault_of (TooLarge name) e g told is = absurd (cc)
+  read_fault_of Memory e g told is = absurd (cc)
+  read_fault_of NotBuilt e g told is = absurd (cc)
+  read_fault_of (Ran (Returned steps)) e g told is = absurd (cc)
+  read_fault_of (Ran (Limited steps)) e g told is = absurd (cc)
+  read_fault_of (Ran OutFault) e g told is = absurd (cc)

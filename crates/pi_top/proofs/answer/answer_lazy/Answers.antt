@@ -1,0 +1,30 @@
+use Rattle.std.proofs.Common.{ap, Ok, Err}
+use Rattle.pi_duty.specs.Words.{LazyWords}
+use Rattle.pi_top.specs.declared.command.LazyCall.{LazyCall}
+use Rattle.pi_top.specs.declared.read_stub.SmallFault.TheVariants.{NotSmall}
+use Rattle.pi_top.proofs.Owing.{file_over, missing_gives, large_gives}
+use Rattle.pi_top.proofs.answer.answer_lazy.Goals as goal
+
+abbrev asks : LazyCall → LazyWords
+asks call = record { file = call.file.now; main = call.main.now; steps = call.steps }
+
+pub returns-in-Ok-run_file-clause-gives : goal.returns-in-Ok-run_file-clause-gives
+returns-in-Ok-run_file-clause-gives g c =
+    file_over (g.S.Store.shown c.args.store.now) (g.S.Store.contents c.args.store.now) (asks c.args.call) c.in-Ok.file.items c.as_slice.result.now (Ok c.in-Ok-run_file.end) _ _
+    c.as_slice.ensures.value c.in-Ok.ensures.content (c.in-Ok-run_file.ensures.gives c.args.call.file.now)
+
+pub returns-in-Err-NotSmall-clause-gives : goal.returns-in-Err-NotSmall-clause-gives
+returns-in-Err-NotSmall-clause-gives g c =
+    file_over (g.S.Store.shown c.args.store.now) (g.S.Store.contents c.args.store.now) (asks c.args.call) c.in-Ok.file.items c.as_slice.result.now (Err NotSmall) _ _
+    c.as_slice.ensures.value c.in-Ok.ensures.content (rw c.in-Err-NotSmall.field-0-is at (c.in-Err-NotSmall.ensures.gives c.args.call.file.now))
+
+pub returns-in-Ok-clause-gives : goal.returns-in-Ok-clause-gives
+returns-in-Ok-clause-gives g c = rw c.in-Err-OutOfMemory-run_file.field-0-is at (c.in-Err-OutOfMemory-run_file.ensures.gives c.args.call.file.now)
+
+pub returns-in-Err-Missing-clause-gives : goal.returns-in-Err-Missing-clause-gives
+returns-in-Err-Missing-clause-gives g c =
+    missing_gives (g.S.Store.shown c.args.store.now) (g.S.Store.contents c.args.store.now) (asks c.args.call) _ (λ s. c.in-Err-Missing.ensures.missing s (ap Err c.in-Err-Missing.field-0-is))
+
+pub returns-in-Err-TooLarge-clause-gives : goal.returns-in-Err-TooLarge-clause-gives
+returns-in-Err-TooLarge-clause-gives g c =
+    large_gives (g.S.Store.shown c.args.store.now) (g.S.Store.contents c.args.store.now) (asks c.args.call) _ (λ s. c.in-Err-TooLarge.ensures.too_large s (ap Err c.in-Err-TooLarge.field-0-is))
