@@ -1,0 +1,9 @@
+// Reads a small file into the program that it says. docs/dex-format.md states what a small file is.
+#![tactic(auto)]
+
+mod bytes;
+mod fault;
+mod ids;
+mod tables;
+
+pub use fault::SmallFault;

@@ -1,0 +1,55 @@
+// The header of a file, its tables of ids and the texts of its strings. docs/dex-format.md states the rules X1 to X5 and
+// X8 that are tested here, and what a plain text is.
+
+ghost use Rattle.std.specs.Prelude.{◌≡◌, ◌+◌, ◌*◌, ◌<◌, ◌≤◌, length, true};
+ghost use Rattle.pi_format.specs.Tables.{header_holds, table_holds, tables_hold};
+
+use crate::bytes::{byte, is_in_file, word};
+
+/// The places of the header's fields: a table's size stands there, its offset four bytes later.
+pub const STRING_IDS: usize = 56;
+pub const TYPE_IDS: usize = 64;
+pub const PROTO_IDS: usize = 72;
+pub const FIELD_IDS: usize = 80;
+pub const METHOD_IDS: usize = 88;
+pub const CLASS_DEFS: usize = 96;
+
+/// Whether the header is whole and says the version, order and length (rules X1 to X5).
+#[tactic(auto, unfolding(pi_format::specs::Tables::header_holds))]
+pub fn holds_header(file: &[u8]) -> bool
+    ensures { result ≡ header_holds file.now }
+{
+    file.len() >= 112
+        && file.starts_with(b"dex\n035\0")
+        && word(file, 40) == 0x12345678
+        && word(file, 36) == 112
+        && word(file, 32) as usize == file.len()
+}
+
+/// Whether a table is empty, or begins at a multiple of four behind the header and ends in the file.
+#[tactic(auto, unfolding(pi_format::specs::Tables::table_holds))]
+fn holds_table(file: &[u8], place: usize, width: usize) -> bool
+    requires in_header { place + 8 ≤ length file.now }
+    requires narrow { width ≤ 32 }
+    ensures { result ≡ table_holds file.now place width }
+{
+    let count = word(file, place) as usize;
+    let at = word(file, place + 4) as usize;
+    count == 0 || (at % 4 == 0 && at >= 112 && at + width * count <= file.len())
+}
+
+/// Whether all six tables hold, with at most 65,535 types and prototypes (rule X8).
+#[tactic(auto, unfolding(pi_format::specs::Tables::tables_hold))]
+pub fn hold_tables(file: &[u8]) -> bool
+    requires { 112 ≤ length file.now }
+    ensures { result ≡ tables_hold file.now }
+{
+    holds_table(file, STRING_IDS, 4)
+        && holds_table(file, TYPE_IDS, 4)
+        && holds_table(file, PROTO_IDS, 12)
+        && holds_table(file, FIELD_IDS, 8)
+        && holds_table(file, METHOD_IDS, 8)
+        && holds_table(file, CLASS_DEFS, 32)
+        && word(file, TYPE_IDS) <= 65535
+        && word(file, PROTO_IDS) <= 65535
+}
