@@ -1,5 +1,5 @@
 -- The program of a chain of files as plain data: its names, its types, its classes, and what each file brought.
-use Rattle.std.specs.Prelude.{ℕ, ◌+◌, ◌==◌, not, List, [], ◌∷◌, ◌++◌, length, take, filter, sum_by, Bool}
+use Rattle.std.specs.Prelude.{ℕ, ◌+◌, ◌^◌, ◌<◌, ◌≤◌, ◌==◌, not, List, [], ◌∷◌, ◌++◌, length, take, filter, sum_by, Bool}
 use Rattle.std.specs.List.{list_any}
 use Rattle.pi_model.specs.declared.numbers.NameNo.{NameNo}
 use Rattle.pi_model.specs.declared.describe.ClassDesc.{ClassDesc}
@@ -31,11 +31,11 @@ new_types old types = filter (λ t. not (list_any (same_name t) old)) types
 -- a chain with one more file: its new names, then the types that were not there, then its classes
 abbrev pub with_file : Program → List (List ℕ) → List NameNo → List ClassDesc → Program
 with_file p names types classes = record {
-    names = p.names ++ names;
-    types = p.types ++ new_types p.types types;
-    classes = p.classes ++ classes;
-    files = p.files ++ record { names_to = length p.names + length names; types = types } ∷ []
-  }
+  names = p.names ++ names;
+  types = p.types ++ new_types p.types types;
+  classes = p.classes ++ classes;
+  files = p.files ++ record { names_to = length p.names + length names; types = types } ∷ [];
+}
 
 -- how many fields a class lists
 abbrev pub field_count : ClassDesc → ℕ
@@ -56,3 +56,16 @@ method_number p c place = sum_by method_count (take c p.classes) + place
 -- how many fields the whole program has
 abbrev pub all_fields : Program → ℕ
 all_fields p = sum_by field_count p.classes
+
+-- how many methods the whole program has
+abbrev pub all_methods : Program → ℕ
+all_methods p = sum_by method_count p.classes
+
+-- a number of 32 bits counts each kind of thing of a program, and there are at most eight files
+pub record IsCounted (p : Program) : Type 0 where
+  pub names : length p.names < 2 ^ 32
+  pub types : length p.types < 2 ^ 32
+  pub classes : length p.classes < 2 ^ 32
+  pub fields : all_fields p < 2 ^ 32
+  pub methods : all_methods p < 2 ^ 32
+  pub files : length p.files ≤ 8

@@ -6,7 +6,7 @@ use Rattle.pi_model.specs.declared.describe.MethodDesc.{MethodDesc}
 use Rattle.pi_model.specs.declared.describe.FieldDesc.{FieldDesc}
 use Rattle.pi_model.specs.declared.insn.FieldRef.{FieldRef}
 use Rattle.pi_model.specs.declared.insn.MethodRef.{MethodRef}
-use Rattle.pi_model.specs.Program.{Program, same_name, field_number, method_number, method_count}
+use Rattle.pi_model.specs.Program.{Program, same_name, field_number, method_number, field_count, method_count}
 
 -- a class of the program, with its place in it
 abbrev pub class_at : Program → ℕ → Option ClassDesc
@@ -15,6 +15,10 @@ class_at p c = slice_get p.classes c
 -- the number of the class of a descriptor
 abbrev pub class_of : Program → NameNo → Option ℕ
 class_of p n = position (λ (d : ClassDesc). same_name d.name n) p.classes
+
+-- the number of the type of a descriptor
+abbrev pub type_of : Program → NameNo → Option ℕ
+type_of p n = position (λ (t : NameNo). same_name t n) p.types
 
 -- a member of a class: the class and the place in its list
 pub record Member : Type 0 where
@@ -89,14 +93,22 @@ find_method p m = option_and_then (method_from (length p.classes) p m) (class_of
 abbrev pub method_at : Program → Member → Option MethodDesc
 method_at p i = option_and_then (λ (d : ClassDesc). slice_get d.methods i.place) (class_at p i.class)
 
+-- the class and place of a member by its number, where each class has so many members
+abbrev pub member_by : (ClassDesc → ℕ) → List ClassDesc → ℕ → ℕ → Option Member
+member_by count [] c n = None
+member_by count (d ∷ ds) c n = if nat_lt n (count d) then Some (in_class c n) else member_by count ds (c + 1) (n - count d)
+
 -- the class and place of a method by its number
 abbrev pub member_of : List ClassDesc → ℕ → ℕ → Option Member
-member_of [] c n = None
-member_of (d ∷ ds) c n = if nat_lt n (method_count d) then Some (in_class c n) else member_of ds (c + 1) (n - method_count d)
+member_of ds c n = member_by method_count ds c n
 
 -- the method of a number
 abbrev pub method_of : Program → ℕ → Option Member
 method_of p n = member_of p.classes 0 n
+
+-- the field of a number
+abbrev pub field_of : Program → ℕ → Option Member
+field_of p n = member_by field_count p.classes 0 n
 
 -- the number of a member among all fields
 abbrev pub field_no_of : Program → Member → ℕ

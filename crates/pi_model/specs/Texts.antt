@@ -12,9 +12,9 @@ same_text a b = pointwise nat_eq a b
 abbrev pub is_named : Program → NameNo → List ℕ → Bool
 is_named p n text = by_content (slice_get p.names n.0) text
   where
-  by_content : Option (List ℕ) → List ℕ → Bool
-  by_content None text = false
-  by_content (Some units) text = same_text units text
+    by_content : Option (List ℕ) → List ℕ → Bool
+    by_content None text = false
+    by_content (Some units) text = same_text units text
 
 -- the names are those of the texts, in order
 abbrev pub are_named : Program → List NameNo → List (List ℕ) → Bool

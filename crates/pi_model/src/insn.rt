@@ -8,39 +8,155 @@ use crate::numbers::NameNo;
 #[derive(Debug, Drop)]
 pub enum Insn {
     Nop,
-    Move { kind: Kind, a: u16, b: u16 },
-    MoveResult { k: Kind, a: u16 },
-    MoveException { a: u16 },
+    Move {
+        kind: Kind,
+        a: u16,
+        b: u16,
+    },
+    MoveResult {
+        k: Kind,
+        a: u16,
+    },
+    MoveException {
+        a: u16,
+    },
     ReturnVoid,
-    Return { k: Kind, a: u16 },
-    Const { a: u16, v: u32 },
-    ConstWide { a: u16, v: u64 },
-    ConstString { a: u16, s: NameNo },
-    ConstClass { a: u16, t: NameNo },
-    Monitor { a: u16 },
-    CheckCast { a: u16, t: NameNo },
-    InstanceOf { a: u16, b: u16, t: NameNo },
-    ArrayLength { a: u16, b: u16 },
-    NewInstance { a: u16, t: NameNo },
-    NewArray { a: u16, b: u16, t: NameNo },
-    Filled { t: NameNo, regs: Regs },
-    FillArray { a: u16, width: u16, items: Items },
-    Throw { a: u16 },
-    Goto { to: u32 },
-    Switch { a: u16, cases: Cases },
-    CmpLong { a: u16, b: u16, c: u16 },
-    If { cond: Cond, a: u16, b: u16, to: u32 },
-    IfZ { cond: Cond, a: u16, to: u32 },
-    Aget { kind: Access, a: u16, b: u16, c: u16 },
-    Aput { kind: Access, a: u16, b: u16, c: u16 },
-    Iget { kind: Access, a: u16, b: u16, f: FieldRef },
-    Iput { kind: Access, a: u16, b: u16, f: FieldRef },
-    Sget { kind: Access, a: u16, f: FieldRef },
-    Sput { kind: Access, a: u16, f: FieldRef },
-    Invoke { how: How, m: MethodRef, regs: Regs },
-    Unary { op: UnOp, a: u16, b: u16 },
-    Binary { op: Arith, a: u16, b: u16, c: u16 },
-    BinaryLit { op: BinOp, a: u16, b: u16, v: u32 },
+    Return {
+        k: Kind,
+        a: u16,
+    },
+    Const {
+        a: u16,
+        v: u32,
+    },
+    ConstWide {
+        a: u16,
+        v: u64,
+    },
+    ConstString {
+        a: u16,
+        s: NameNo,
+    },
+    ConstClass {
+        a: u16,
+        t: NameNo,
+    },
+    Monitor {
+        a: u16,
+    },
+    CheckCast {
+        a: u16,
+        t: NameNo,
+    },
+    InstanceOf {
+        a: u16,
+        b: u16,
+        t: NameNo,
+    },
+    ArrayLength {
+        a: u16,
+        b: u16,
+    },
+    NewInstance {
+        a: u16,
+        t: NameNo,
+    },
+    NewArray {
+        a: u16,
+        b: u16,
+        t: NameNo,
+    },
+    Filled {
+        t: NameNo,
+        regs: Regs,
+    },
+    FillArray {
+        a: u16,
+        width: u16,
+        items: Items,
+    },
+    Throw {
+        a: u16,
+    },
+    Goto {
+        to: u32,
+    },
+    Switch {
+        a: u16,
+        cases: Cases,
+    },
+    CmpLong {
+        a: u16,
+        b: u16,
+        c: u16,
+    },
+    If {
+        cond: Cond,
+        a: u16,
+        b: u16,
+        to: u32,
+    },
+    IfZ {
+        cond: Cond,
+        a: u16,
+        to: u32,
+    },
+    Aget {
+        kind: Access,
+        a: u16,
+        b: u16,
+        c: u16,
+    },
+    Aput {
+        kind: Access,
+        a: u16,
+        b: u16,
+        c: u16,
+    },
+    Iget {
+        kind: Access,
+        a: u16,
+        b: u16,
+        f: FieldRef,
+    },
+    Iput {
+        kind: Access,
+        a: u16,
+        b: u16,
+        f: FieldRef,
+    },
+    Sget {
+        kind: Access,
+        a: u16,
+        f: FieldRef,
+    },
+    Sput {
+        kind: Access,
+        a: u16,
+        f: FieldRef,
+    },
+    Invoke {
+        how: How,
+        m: MethodRef,
+        regs: Regs,
+    },
+    Unary {
+        op: UnOp,
+        a: u16,
+        b: u16,
+    },
+    Binary {
+        op: Arith,
+        a: u16,
+        b: u16,
+        c: u16,
+    },
+    BinaryLit {
+        op: BinOp,
+        a: u16,
+        b: u16,
+        v: u32,
+    },
 }
 
 /// What a register move, result or return carries: a word, a long in two registers, or a reference.

@@ -6,4 +6,6 @@ pub mod describe;
 pub mod insn;
 pub mod listed;
 pub mod numbers;
+pub mod prog;
 pub mod reason;
+pub mod texts;

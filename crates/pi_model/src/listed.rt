@@ -1,5 +1,6 @@
 // A list of values that contracts see as the list alone, and never as a buffer with a capacity.
 
+ghost use Rattle.std.specs.Bool.{Decides};
 ghost use Rattle.std.specs.Prelude.{◌≡◌, ◌<◌, ◌++◌, ◌∷◌, [], ◌==◌, length, take, vec_len, slice_get, option_copied, IfOk, OnOk, OnErr, IfNone, IfSome, IsTrue, ◌↔◌};
 
 use crate::numbers::NameNo;
@@ -101,5 +102,64 @@ impl<T> Listed<T> {
     {
         self.items.push(item)?;
         Ok(())
+    }
+
+    /// Moves the elements of another list behind those of this one; after a refusal they are dropped.
+    pub fn append(&mut self, other: Listed<T>) -> Result<(), AllocError>
+    where
+        T: Drop,
+        ensures ok { OnOk result (self.new ≡ self.old ++ other) }
+        ensures err { OnErr result (self.new ≡ self.old) }
+    {
+        let mut items = other.items;
+        self.items.append(&mut items)
+    }
+
+    /// Keeps the first elements, all of them where there are no more than that.
+    pub fn truncate(&mut self, len: usize)
+    where
+        T: Drop,
+        ensures { self.new ≡ take len self.old }
+    {
+        self.items.truncate(len);
+    }
+
+    /// A list of the same elements.
+    pub fn copy(&self) -> Result<Listed<T>, AllocError>
+    where
+        T: Clone + Drop,
+        requires { (x y : T) → T.is_clone x y → y ≡ x }
+        ensures { IfOk result (λ list. list ≡ self.now) }
+    {
+        let items = Vec::from_clones(*self.items.allocator(), self.items.as_slice())?;
+        Ok(Listed { items })
+    }
+
+    /// Whether another list has the same elements in the same order.
+    pub fn same(&self, other: &Listed<T>) -> bool
+    where
+        T: PartialEq,
+        requires { (x y : T) → Decides (T.eq x y) (x ≡ y) }
+        ensures { IsTrue result ↔ (self.now ≡ other.now) }
+    {
+        self.items.as_slice() == other.items.as_slice()
+    }
+}
+
+impl<T: Copy> Listed<T> {
+    /// The list of a slice's elements.
+    pub fn from_slice(alloc: Global, items: &[T]) -> Result<Listed<T>, AllocError>
+        ensures { IfOk result (λ list. list ≡ items.now) }
+    {
+        let items = Vec::from_slice(alloc, items)?;
+        Ok(Listed { items })
+    }
+
+    /// Adds the elements of a slice behind the others.
+    pub fn extend_from_slice(&mut self, other: &[T]) -> Result<(), AllocError>
+        ensures ok { OnOk result (self.new ≡ self.old ++ other.now) }
+        ensures err { OnErr result (self.new ≡ self.old) }
+    {
+        self.items.extend_from_slice(other)
     }
 }

@@ -1,0 +1,2 @@
+-- Lemmas, and examples of the definitions.
+pub mod Members
