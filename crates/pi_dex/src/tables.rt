@@ -1,8 +1,9 @@
 // The header of a file, its tables of ids and the texts of its strings. docs/dex-format.md states the rules X1 to X5 and
 // X8 that are tested here, and what a plain text is.
 
-ghost use Rattle.std.specs.Prelude.{◌≡◌, ◌+◌, ◌*◌, ◌<◌, ◌≤◌, length, true};
-ghost use Rattle.pi_format.specs.Tables.{header_holds, table_holds, tables_hold};
+ghost use Rattle.std.specs.Prelude.{◌≡◌, ◌+◌, ◌*◌, ◌<◌, ◌≤◌, ◌^◌, length, true, IfSome, IfNone};
+ghost use Rattle.pi_format.specs.Tables.{header_holds, table_holds, tables_hold, count_at, table_at};
+ghost use Rattle.pi_dex.specs.Whole.{IsWhole};
 
 use crate::bytes::{byte, is_in_file, word};
 
@@ -52,4 +53,22 @@ pub fn hold_tables(file: &[u8]) -> bool
         && holds_table(file, CLASS_DEFS, 32)
         && word(file, TYPE_IDS) <= 65535
         && word(file, PROTO_IDS) <= 65535
+}
+
+/// Where an entry of a table begins, None where the table has no more entries than that.
+#[tactic(auto, using(crate::proofs::Places::entry_ends), unfolding(pi_format::specs::Tables::table_holds))]
+pub fn entry(file: &[u8], place: usize, width: usize, i: usize) -> Option<usize>
+    requires in_header { place + 8 ≤ length file.now }
+    requires narrow { width ≤ 32 }
+    requires holds { table_holds file.now place width ≡ true }
+    ensures none { IfNone result (count_at file.now place ≤ i) }
+    ensures some { IfSome result (λ _. i < count_at file.now place) }
+    ensures small { IfSome result (λ _. i < 2 ^ 32) }
+    ensures begins { IfSome result (λ at. at ≡ table_at file.now place + width * i) }
+    ensures ends { IfSome result (λ at. at + width ≤ length file.now) }
+{
+    if i >= word(file, place) as usize {
+        return None;
+    }
+    Some(word(file, place + 4) as usize + width * i)
 }
