@@ -1,6 +1,11 @@
 -- Lists that are read one element after another: what is read so far, put before what reading the rest gives.
-use Rattle.std.proofs.Common.{◌≡◌, ℕ, zero, suc, ◌+◌, ◌-◌, ◌<◌, ◌≤◌, List, [], ◌∷◌, ◌++◌, Option, Some, None, refl, ap, sym, ◌∙◌, append_assoc, append-nil, arith}
+use Rattle.std.proofs.Common.{◌≡◌, ℕ, zero, suc, ◌+◌, ◌-◌, ◌<◌, ◌≤◌, List, [], ◌∷◌, ◌++◌, Option, Some, None, refl, ap, sym, ◌∙◌, append_assoc, append-nil, arith, subst}
+use Rattle.std.specs.Prelude.{Result, Ok, Err}
+use Rattle.std.specs.Result.{IsErrAnd}
 use Rattle.pi_format.specs.Bytes.{entries, ◌>>=◌}
+use Rattle.pi_dex.specs.declared.fault.SmallFault.{SmallFault}
+use Rattle.pi_dex.specs.declared.fault.SmallFault.TheVariants.{OutOfMemory, NotSmall}
+use Rattle.pi_dex.specs.Says.{Says}
 
 -- those that were read, before the others where there are any
 abbrev pub behind : {A : Type 0} → List A → Option (List A) → Option (List A)
@@ -39,3 +44,17 @@ pub entries_done : {A : Type 0} (f : ℕ → Option A) (done : List A) (i n : �
 entries_done f done i n le =
     let e : n - i ≡ 0 = omega arith in
     ap (λ k. behind done (entries f i k)) e ∙ ap Some (append-nil done)
+
+-- what has no answer since a part of it has none
+pub says_err : {A B : Type 0} (part : Option A) (whole : Option B) (fault : SmallFault)
+  → (part ≡ None → whole ≡ None) → Says part (Err fault) → Says whole (Err fault)
+says_err part whole NotSmall stops none = stops none
+says_err part whole OutOfMemory stops none = none
+
+-- the error that a `?` passes on says the same
+pub says_passed : {A B : Type 0} (part : Option A) (whole : Option B) (fault : SmallFault) (answer : Result B SmallFault)
+  → IsErrAnd answer (λ e. e ≡ fault) → (part ≡ None → whole ≡ None) → Says part (Err fault) → Says whole answer
+says_passed part whole fault (Ok _) is stops none = elim is [ ]
+says_passed part whole fault (Err e) is stops none =
+    let P : SmallFault → Type 0 = λ f. Says whole (Err f) in
+    subst P (sym is) (says_err part whole fault stops none)

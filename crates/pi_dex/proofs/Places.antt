@@ -1,5 +1,7 @@
 -- Where the entries of a table lie.
-use Rattle.std.proofs.Common.{◌≡◌, ℕ, ◌+◌, ◌*◌, ◌<◌, ◌≤◌, arith}
+use Rattle.std.proofs.Common.{◌≡◌, ℕ, ◌+◌, ◌*◌, ◌<◌, ◌≤◌, List, length, true, arith}
+use Rattle.std.proofs.lemmas.Bool.Decides.{nat_tests}
+use Rattle.pi_format.specs.Tables.{table_holds, count_at}
 use Rattle.std.proofs.Math.Nat.{mul-le-mul_left}
 
 -- an entry of a table ends where the table does, or before
@@ -7,3 +9,8 @@ pub entry_ends : (width i count : ℕ) → i < count → width * i + width ≤ w
 entry_ends width i count lt =
     let more : i + 1 ≤ count = omega arith in
     omega (arith, mul-le-mul_left width more)
+
+-- a table that holds is no longer than the file
+pub few_entries : (file : List ℕ) (place width : ℕ) → table_holds file place width ≡ true → width * count_at file place ≤ length file
+unfolding table_holds
+few_entries file place width holds = grind (arith, nat_tests)

@@ -3,7 +3,7 @@
 ghost use Rattle.std.specs.Prelude.{◌≡◌};
 ghost use Rattle.pi_dex.specs.declared.fault.SmallFault.TheVariants.{OutOfMemory};
 
-use std::alloc::AllocFailed;
+use std::alloc::{AllocError, AllocFailed};
 use std::error::Error;
 use std::fmt;
 
@@ -29,6 +29,14 @@ impl<T: Drop> From<AllocFailed<T>> for SmallFault {
     ghost from_gives = { λ _ e. e ≡ OutOfMemory };
 
     fn from(_failed: AllocFailed<T>) -> SmallFault {
+        SmallFault::OutOfMemory
+    }
+}
+
+impl From<AllocError> for SmallFault {
+    ghost from_gives = { λ _ e. e ≡ OutOfMemory };
+
+    fn from(_failed: AllocError) -> SmallFault {
         SmallFault::OutOfMemory
     }
 }

@@ -4,6 +4,7 @@
 mod bytes;
 mod fault;
 mod ids;
+mod names;
 mod tables;
 
 pub use fault::SmallFault;
