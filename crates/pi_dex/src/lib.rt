@@ -4,6 +4,7 @@
 mod bytes;
 mod fault;
 mod ids;
+mod instructions;
 mod names;
 mod tables;
 

@@ -126,7 +126,6 @@ fn string(alloc: Global, file: &[u8], i: usize) -> Result<Units, SmallFault>
 }
 
 /// How many string ids there are.
-#[tactic(auto, using(crate::proofs::Places::few_entries))]
 pub fn string_count(file: &[u8]) -> usize
     requires { IsWhole file.now }
     ensures value { result ≡ count_at file.now string_ids }
