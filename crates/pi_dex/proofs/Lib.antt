@@ -1,3 +1,5 @@
 pub mod Places
 pub mod Lists
 pub mod Texts
+pub mod Lines
+pub mod Rows

@@ -2,6 +2,7 @@
 #![tactic(auto)]
 
 mod bytes;
+mod class_data;
 mod fault;
 mod ids;
 mod instructions;
