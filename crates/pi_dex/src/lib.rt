@@ -3,6 +3,7 @@
 
 mod bytes;
 mod class_data;
+mod core;
 mod fault;
 mod ids;
 mod instructions;
