@@ -3,11 +3,13 @@
 
 mod bytes;
 mod class_data;
-mod core;
+
 mod fault;
+mod first_file;
 mod ids;
 mod instructions;
 mod names;
+mod small;
 mod tables;
 
 pub use fault::SmallFault;
