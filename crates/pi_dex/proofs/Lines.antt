@@ -1,11 +1,12 @@
 -- The instructions of a code, read one after another.
-use Rattle.std.proofs.Common.{◌≡◌, ◌≢◌, ℕ, zero, suc, ◌+◌, ◌-◌, ◌*◌, ◌<◌, ◌≤◌, ◌==◌, Bool, true, false, List, [], ◌∷◌, ◌++◌, Option, Some, None, refl, ap, sym, ◌∙◌, arith, append-nil}
+use Rattle.std.proofs.Common.{◌≡◌, ◌≢◌, ℕ, zero, suc, ◌+◌, ◌-◌, ◌*◌, ◌<◌, ◌≤◌, ◌==◌, Bool, true, false, List, [], ◌∷◌, ◌++◌, Option, Some, None, length, get_or, ap, sym, ◌∙◌, arith, append-nil}
 use Rattle.std.specs.Prelude.{if◌then◌else◌}
 use Rattle.std.proofs.lemmas.Bool.Decides.{nat_tests}
 use Rattle.pi_model.specs.declared.numbers.NameNo.{NameNo}
 use Rattle.pi_model.specs.declared.describe.Line.{Line}
 use Rattle.pi_format.specs.Bytes.{◌>>=◌}
 use Rattle.pi_format.specs.Instructions.{Decoded, insn_at, lines_from}
+use Rattle.pi_format.specs.Small.{is_return, ends_in_return}
 use Rattle.pi_dex.proofs.Lists.{behind, behind_more}
 
 differ : (a b : ℕ) → a ≢ b → (a == b) ≡ false
@@ -61,3 +62,12 @@ pub lines_stop : (done : List Line) (n more : ℕ) (file : List ℕ) (numbers : 
   → behind done (lines_from n file numbers units begin at) ≡ None
 lines_stop done n more file numbers units begin at e ne is =
     ap (behind done) (lines_step n more file numbers units begin at None e ne is)
+
+-- whether the last instruction returns, by its place
+pub ends_last : (lines : List Line) (i : ℕ) (last : Line) → i + 1 ≡ length lines → last ≡ get_or lines i last
+  → is_return last.insn ≡ ends_in_return lines
+ends_last [] i last h e = absurd (omega arith)
+ends_last (line ∷ []) zero last h e = ap (λ (l : Line). is_return l.insn) e
+ends_last (line ∷ []) (suc i) last h e = absurd (omega arith)
+ends_last (line ∷ next ∷ others) zero last h e = absurd (omega arith)
+ends_last (line ∷ next ∷ others) (suc i) last h e = ends_last (next ∷ others) i last (omega arith) e

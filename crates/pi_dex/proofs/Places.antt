@@ -1,7 +1,8 @@
 -- Where the entries of a table lie.
 use Rattle.std.proofs.Common.{◌≡◌, ℕ, ◌+◌, ◌*◌, ◌<◌, ◌≤◌, List, length, true, arith}
 use Rattle.std.proofs.lemmas.Bool.Decides.{nat_tests}
-use Rattle.pi_format.specs.Tables.{table_holds, count_at}
+use Rattle.pi_format.specs.Tables.{header_holds, tables_hold, table_holds, count_at}
+use Rattle.pi_dex.specs.Whole.{IsWhole}
 use Rattle.std.proofs.Math.Nat.{mul-le-mul_left}
 
 -- an entry of a table ends where the table does, or before
@@ -14,3 +15,16 @@ entry_ends width i count lt =
 pub few_entries : (file : List ℕ) (place width : ℕ) → table_holds file place width ≡ true → width * count_at file place ≤ length file
 unfolding table_holds
 few_entries file place width holds = grind (arith, nat_tests)
+
+-- a file that passed the tests of its header and its tables is whole
+pub whole : (file : List ℕ) → header_holds file ≡ true → tables_hold file ≡ true → IsWhole file
+unfolding header_holds tables_hold
+whole file header tables = record {
+    header = grind (arith, nat_tests);
+    strings = grind (arith, nat_tests);
+    types = grind (arith, nat_tests);
+    protos = grind (arith, nat_tests);
+    fields = grind (arith, nat_tests);
+    methods = grind (arith, nat_tests);
+    classes = grind (arith, nat_tests)
+  }
