@@ -1,7 +1,9 @@
 -- Where the entries of a table lie.
-use Rattle.std.proofs.Common.{◌≡◌, ℕ, ◌+◌, ◌*◌, ◌<◌, ◌≤◌, List, length, true, arith}
+use Rattle.std.proofs.Common.{◌≡◌, ℕ, ◌+◌, ◌*◌, ◌<◌, ◌≤◌, List, length, true, ap, arith}
 use Rattle.std.proofs.lemmas.Bool.Decides.{nat_tests}
 use Rattle.pi_format.specs.Tables.{header_holds, tables_hold, table_holds, count_at}
+use Rattle.pi_model.specs.Program.{Program}
+use Rattle.pi_format.specs.Core.{core_names, core_program}
 use Rattle.pi_dex.specs.Whole.{IsWhole}
 use Rattle.std.proofs.Math.Nat.{mul-le-mul_left}
 
@@ -28,3 +30,8 @@ whole file header tables = record {
     methods = grind (arith, nat_tests);
     classes = grind (arith, nat_tests)
   }
+
+-- the first file brings eight names
+pub core_names_are_few : (p : Program) → p ≡ core_program → length p.names ≡ 8
+unfolding core_names
+core_names_are_few p e = ap (λ (q : Program). length q.names) e

@@ -2,9 +2,9 @@
 // X5 and X8 that are tested first.
 #![tactic(auto)]
 
-ghost use Rattle.std.specs.Prelude.{◌≡◌, ◌+◌, ◌≤◌, ◌<◌, ◌^◌, length, Err, None, Some, true, IfOk};
-ghost use Rattle.pi_format.specs.Core.{core_program};
-ghost use Rattle.pi_format.specs.Small.{class_fits, small_chain, small_class, small_program};
+ghost use Rattle.std.specs.Prelude.{◌≡◌, ◌+◌, ◌++◌, ◌&&◌, ◌≤◌, ◌<◌, ◌^◌, length, Err, None, Some, true, IfOk};
+ghost use Rattle.pi_format.specs.Core.{core_names, core_program};
+ghost use Rattle.pi_format.specs.Small.{class_fits, has_text, small_chain, small_class, small_program};
 ghost use Rattle.pi_format.specs.Tables.{tables_hold, count_at, table_at, class_defs};
 ghost use Rattle.pi_dex.specs.Says.{Says};
 ghost use Rattle.pi_dex.specs.Whole.{IsWhole};
@@ -26,7 +26,7 @@ use bytes::word;
 use class_data::class;
 use names::{number, NumberedTexts};
 use pi_model::describe::{ClassDesc, Classes};
-use pi_model::listed::{Names, Texts};
+use pi_model::listed::{Names, Texts, Units};
 use pi_model::prog::Prog;
 use pi_model::texts::text_of;
 use small::{fits_class, is_called};
@@ -46,7 +46,7 @@ pub fn read_small(alloc: Global, main: &[u8], file: &[u8]) -> Result<Prog, Small
     read(alloc, main, file)
 }
 
-#[tactic(auto, using(crate::proofs::Places::whole), unfolding(pi_format::specs::Small::small_program))]
+#[tactic(auto, using(crate::proofs::Places::whole, crate::proofs::Places::core_names_are_few), unfolding(pi_format::specs::Small::small_program))]
 fn read(alloc: Global, main: &[u8], file: &[u8]) -> Result<Prog, SmallFault>
     requires { length file.now ≤ 16777216 }
     ensures { Says (small_program main.now file.now) result }
@@ -73,13 +73,22 @@ fn chain(alloc: Global, main: &[u8], file: &[u8], first: Prog, known: NumberedTe
     let NumberedTexts { new, numbers } = known;
     let class = class(alloc, file, numbers.as_slice(), at)?;
     let main = text_of(alloc, main)?;
-    if !is_called(&first, new.as_slice(), class.name, main.as_slice()) || !fits_class(&class) {
+    if !is_small(&first, new.as_slice(), &class, main.as_slice()) {
         return Err(SmallFault::NotSmall);
     }
     Ok(with_class(alloc, first, new, class)?)
 }
 
+/// Whether a class is that of a small file for the main class of that descriptor.
+fn is_small(first: &Prog, new: &[Units], class: &ClassDesc, main: &[u16]) -> bool
+    requires { first.now.names ≡ core_names }
+    ensures { result ≡ (has_text (core_names ++ new.now) class.now.name main.now && class_fits class.now) }
+{
+    is_called(first, new, class.name, main) && fits_class(class)
+}
+
 /// The chain of the first file and one more with these new names and this class.
+#[tactic(auto, using(crate::proofs::Places::core_names_are_few), unfolding(pi_format::specs::Small::class_fits, pi_format::specs::Small::small_chain))]
 fn with_class(alloc: Global, mut prog: Prog, new: Texts, class: ClassDesc) -> Result<Prog, AllocError>
     requires first { prog ≡ core_program }
     requires names { length new ≤ 16777216 }

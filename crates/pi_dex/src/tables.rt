@@ -25,7 +25,8 @@ pub const CLASS_DEFS: usize = 96;
 /// Whether the header is whole and says the version, order and length (rules X1 to X5).
 #[tactic(auto, unfolding(pi_format::specs::Tables::header_holds))]
 pub fn holds_header(file: &[u8]) -> bool
-    ensures { result ≡ header_holds file.now }
+    ensures value { result ≡ header_holds file.now }
+    ensures long { result ≡ true → 112 ≤ length file.now }
 {
     file.len() >= 112
         && file.starts_with(b"dex\n035\0")
