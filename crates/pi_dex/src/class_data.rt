@@ -105,13 +105,13 @@ fn one_field(file: &[u8], numbers: &[NameNo], class: NameNo, before: u32, at: us
     let (difference, at) = uleb(file, at)?;
     let (flags, next) = uleb(file, at)?;
     let id = before as usize + difference as usize;
-    let named = field(file, numbers, id)?;
-    if named.class.0 != class.0 {
+    let f = field(file, numbers, id)?;
+    if f.class.0 != class.0 {
         return None;
     }
     let desc = FieldDesc {
-        name: named.name,
-        ty: named.ty,
+        name: f.name,
+        ty: f.ty,
         flags,
         init: Init::Zero,
     };
@@ -127,7 +127,7 @@ fn all_fields(alloc: Global, file: &[u8], numbers: &[NameNo], class: NameNo, cou
     let mut fields = Vec::new(alloc);
     let mut before = 0;
     let mut next = at;
-    for read in 0..count {
+    for _ in 0..count {
         let Some(row) = one_field(file, numbers, class, before, next) else {
             return Err(SmallFault::NotSmall);
         };
@@ -148,15 +148,15 @@ fn one_method(alloc: Global, file: &[u8], numbers: &[NameNo], class: NameNo, bef
     let (flags, at) = uleb(file, at).ok_or(SmallFault::NotSmall)?;
     let (code_off, next) = uleb(file, at).ok_or(SmallFault::NotSmall)?;
     let id = before as usize + difference as usize;
-    let named = method(alloc, file, numbers, id)?;
+    let m = method(alloc, file, numbers, id)?;
     let code = code(alloc, file, numbers, code_off as usize)?;
-    if named.class.0 != class.0 {
+    if m.class.0 != class.0 {
         return Err(SmallFault::NotSmall);
     }
     let desc = MethodDesc {
-        name: named.name,
-        params: named.params,
-        ret: named.ret,
+        name: m.name,
+        params: m.params,
+        ret: m.ret,
         flags,
         code: Some(code),
     };
@@ -171,7 +171,7 @@ fn all_methods(alloc: Global, file: &[u8], numbers: &[NameNo], class: NameNo, co
     let mut methods = Vec::new(alloc);
     let mut before = 0;
     let mut next = at;
-    for read in 0..count {
+    for _ in 0..count {
         let row = one_method(alloc, file, numbers, class, before, next)?;
         methods.push(row.desc)?;
         before = row.id;

@@ -85,7 +85,7 @@ fn lines(alloc: Global, file: &[u8], numbers: &[NameNo], begin: usize, units: u3
 {
     let mut lines = Vec::new(alloc);
     let mut at = 0;
-    for read in 0..units {
+    for _ in 0..units {
         if at == units {
             return Ok(Insns::from_vec(lines));
         }

@@ -37,17 +37,8 @@ use tables::{entry, hold_tables, holds_header, string_count, strings, CLASS_DEFS
 ///
 /// NotSmall says that the file is not small for the main class of that descriptor. Texts and fields are compared with
 /// all that stand before them, so the time grows with the square of their number.
-#[tactic(auto, unfolding(pi_format::specs::Small::small_program))]
-pub fn read_small(alloc: Global, main: &[u8], file: &[u8]) -> Result<Prog, SmallFault>
-    requires { length file.now ≤ 16777216 }
-    ensures ok { IfOk result (λ p. small_program main.now file.now ≡ Some p) }
-    ensures not_small { result ≡ Err SmallFault.NotSmall → small_program main.now file.now ≡ None }
-{
-    read(alloc, main, file)
-}
-
 #[tactic(auto, using(crate::proofs::Places::whole, crate::proofs::Places::core_names_are_few), unfolding(pi_format::specs::Small::small_program))]
-fn read(alloc: Global, main: &[u8], file: &[u8]) -> Result<Prog, SmallFault>
+pub fn read_small(alloc: Global, main: &[u8], file: &[u8]) -> Result<Prog, SmallFault>
     requires { length file.now ≤ 16777216 }
     ensures { Says (small_program main.now file.now) result }
 {
