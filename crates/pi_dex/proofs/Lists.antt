@@ -1,5 +1,5 @@
 -- Lists that are read one element after another: what is read so far, put before what reading the rest gives.
-use Rattle.std.proofs.Common.{◌≡◌, ℕ, zero, suc, ◌+◌, ◌-◌, ◌<◌, ◌≤◌, List, [], ◌∷◌, ◌++◌, Option, Some, None, refl, ap, sym, ◌∙◌, append_assoc, append-nil, arith, subst}
+use Rattle.std.proofs.Common.{◌≡◌, ℕ, suc, ◌+◌, ◌-◌, ◌<◌, ◌≤◌, List, [], ◌∷◌, ◌++◌, Option, Some, None, refl, ap, sym, ◌∙◌, append_assoc, append-nil, arith, subst}
 use Rattle.std.specs.Prelude.{Result, Ok, Err}
 use Rattle.std.specs.Result.{IsErrAnd}
 use Rattle.pi_format.specs.Bytes.{entries, ◌>>=◌}
@@ -13,7 +13,7 @@ behind done None = None
 behind done (Some others) = Some (done ++ others)
 
 pub behind_more : {A : Type 0} (done : List A) (x : A) (others : Option (List A))
-  → behind done (others >>= (λ ys. Some (x ∷ ys))) ≡ behind (done ++ x ∷ []) others
+    → behind done (others >>= (λ ys. Some (x ∷ ys))) ≡ behind (done ++ x ∷ []) others
 behind_more done x None = refl
 behind_more done x (Some ys) = ap Some (sym (append_assoc done (x ∷ []) ys))
 
@@ -26,34 +26,34 @@ entries_is : {A : Type 0} (f : ℕ → Option A) (i n m : ℕ) → n ≡ suc m �
 entries_is f i n m e = ap (entries f i) e
 
 pub entries_more : {A : Type 0} (f : ℕ → Option A) (done : List A) (i n : ℕ) (x : A)
-  → i < n → f i ≡ Some x
-  → behind (done ++ x ∷ []) (entries f (i + 1) (n - (i + 1))) ≡ behind done (entries f i (n - i))
+    → i < n → f i ≡ Some x
+    → behind (done ++ x ∷ []) (entries f (i + 1) (n - (i + 1))) ≡ behind done (entries f i (n - i))
 entries_more f done i n x lt e =
     sym (ap (behind done) (entries_is f i (n - i) (n - (i + 1)) (omega arith)
-        ∙ ap (λ o. o >>= (λ y. entries f (i + 1) (n - (i + 1)) >>= (λ ys. Some (y ∷ ys)))) e)
-      ∙ behind_more done x (entries f (i + 1) (n - (i + 1))))
+    ∙ ap (λ o. o >>= (λ y. entries f (i + 1) (n - (i + 1)) >>= (λ ys. Some (y ∷ ys)))) e)
+    ∙ behind_more done x (entries f (i + 1) (n - (i + 1))))
 
 pub entries_stop : {A : Type 0} (f : ℕ → Option A) (done : List A) (i n : ℕ)
-  → i < n → f i ≡ None → behind done (entries f i (n - i)) ≡ None
+    → i < n → f i ≡ None → behind done (entries f i (n - i)) ≡ None
 entries_stop f done i n lt e =
     ap (behind done) (entries_is f i (n - i) (n - (i + 1)) (omega arith)
-      ∙ ap (λ o. o >>= (λ y. entries f (i + 1) (n - (i + 1)) >>= (λ ys. Some (y ∷ ys)))) e)
+    ∙ ap (λ o. o >>= (λ y. entries f (i + 1) (n - (i + 1)) >>= (λ ys. Some (y ∷ ys)))) e)
 
 pub entries_done : {A : Type 0} (f : ℕ → Option A) (done : List A) (i n : ℕ)
-  → n ≤ i → behind done (entries f i (n - i)) ≡ Some done
+    → n ≤ i → behind done (entries f i (n - i)) ≡ Some done
 entries_done f done i n le =
     let e : n - i ≡ 0 = omega arith in
     ap (λ k. behind done (entries f i k)) e ∙ ap Some (append-nil done)
 
 -- what has no answer since a part of it has none
 pub says_err : {A B : Type 0} (part : Option A) (whole : Option B) (fault : SmallFault)
-  → (part ≡ None → whole ≡ None) → Says part (Err fault) → Says whole (Err fault)
+    → (part ≡ None → whole ≡ None) → Says part (Err fault) → Says whole (Err fault)
 says_err part whole NotSmall stops none = stops none
 says_err part whole OutOfMemory stops none = none
 
 -- the error that a `?` passes on says the same
 pub says_passed : {A B : Type 0} (part : Option A) (whole : Option B) (fault : SmallFault) (answer : Result B SmallFault)
-  → IsErrAnd answer (λ e. e ≡ fault) → (part ≡ None → whole ≡ None) → Says part (Err fault) → Says whole answer
+    → IsErrAnd answer (λ e. e ≡ fault) → (part ≡ None → whole ≡ None) → Says part (Err fault) → Says whole answer
 says_passed part whole fault (Ok _) is stops none = elim is [ ]
 says_passed part whole fault (Err e) is stops none =
     let P : SmallFault → Type 0 = λ f. Says whole (Err f) in

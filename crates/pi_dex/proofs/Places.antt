@@ -22,14 +22,14 @@ few_entries file place width holds = grind (arith, nat_tests)
 pub whole : (file : List ℕ) → header_holds file ≡ true → tables_hold file ≡ true → IsWhole file
 unfolding header_holds tables_hold
 whole file header tables = record {
-    header = grind (arith, nat_tests);
-    strings = grind (arith, nat_tests);
-    types = grind (arith, nat_tests);
-    protos = grind (arith, nat_tests);
-    fields = grind (arith, nat_tests);
-    methods = grind (arith, nat_tests);
-    classes = grind (arith, nat_tests)
-  }
+  header = grind (arith, nat_tests);
+  strings = grind (arith, nat_tests);
+  types = grind (arith, nat_tests);
+  protos = grind (arith, nat_tests);
+  fields = grind (arith, nat_tests);
+  methods = grind (arith, nat_tests);
+  classes = grind (arith, nat_tests);
+}
 
 -- the first file brings eight names
 pub core_names_are_few : (p : Program) → p ≡ core_program → length p.names ≡ 8

@@ -44,9 +44,15 @@ fn uleb_of(bytes: &[u8]) -> Option<(u32, usize)>
     match bytes {
         [a, ..] if *a < 128 => Some((*a as u32, 1)),
         [a, b, ..] if *b < 128 => Some((low_bits(*a) + 128 * *b as u32, 2)),
-        [a, b, c, ..] if *c < 128 => Some((low_bits(*a) + 128 * (low_bits(*b) + 128 * *c as u32), 3)),
+        [a, b, c, ..] if *c < 128 => Some((
+            low_bits(*a) + 128 * (low_bits(*b) + 128 * *c as u32),
+            3,
+        )),
         [a, b, c, d, ..] if *d < 128 => {
-            Some((low_bits(*a) + 128 * (low_bits(*b) + 128 * (low_bits(*c) + 128 * *d as u32)), 4))
+            Some((
+                low_bits(*a) + 128 * (low_bits(*b) + 128 * (low_bits(*c) + 128 * *d as u32)),
+                4,
+            ))
         }
         [a, b, c, d, e, ..] if *e < 16 => {
             let above = low_bits(*c) + 128 * (low_bits(*d) + 128 * *e as u32);

@@ -1,6 +1,6 @@
 // The one class of a small file, with its fields and methods. docs/dex-format.md states how class data is read.
 
-ghost use Rattle.std.specs.Prelude.{◌≡◌, ℕ, ◌+◌, ◌<◌, ◌≤◌, ◌^◌, length, IfOk, IfSome};
+ghost use Rattle.std.specs.Prelude.{◌≡◌, ◌+◌, ◌<◌, ◌≤◌, ◌^◌, length, IfOk};
 ghost use Rattle.pi_format.specs.ClassData.{field_row, field_rows, method_row, method_rows, members_at, class_at};
 ghost use Rattle.pi_dex.specs.Says.{Says};
 ghost use Rattle.pi_dex.specs.Whole.{IsWhole};
@@ -98,7 +98,13 @@ impl Model for MemberLists {
 
 /// The field of the class at a place, behind one with the id `before`.
 #[tactic(auto, unfolding(pi_format::specs::ClassData::field_row))]
-fn one_field(file: &[u8], numbers: &[NameNo], class: NameNo, before: u32, at: usize) -> Option<FieldRow>
+fn one_field(
+    file: &[u8],
+    numbers: &[NameNo],
+    class: NameNo,
+    before: u32,
+    at: usize,
+) -> Option<FieldRow>
     requires { IsWhole file.now }
     ensures { result ≡ field_row file.now numbers.now class before at }
 {
@@ -115,11 +121,22 @@ fn one_field(file: &[u8], numbers: &[NameNo], class: NameNo, before: u32, at: us
         flags,
         init: Init::Zero,
     };
-    Some(FieldRow { id: id as u32, desc, next })
+    Some(FieldRow {
+        id: id as u32,
+        desc,
+        next,
+    })
 }
 
 /// A number of fields of the class, one behind the other.
-fn all_fields(alloc: Global, file: &[u8], numbers: &[NameNo], class: NameNo, count: u32, at: usize) -> Result<FieldList, SmallFault>
+fn all_fields(
+    alloc: Global,
+    file: &[u8],
+    numbers: &[NameNo],
+    class: NameNo,
+    count: u32,
+    at: usize,
+) -> Result<FieldList, SmallFault>
     requires { IsWhole file.now }
     ensures value { Says (field_rows count file.now numbers.now class 0 at) result }
     ensures count { IfOk result (λ list. length list.value ≡ count) }
@@ -135,12 +152,22 @@ fn all_fields(alloc: Global, file: &[u8], numbers: &[NameNo], class: NameNo, cou
         before = row.id;
         next = row.next;
     }
-    Ok(FieldList { fields: Fields::from_vec(fields), next })
+    Ok(FieldList {
+        fields: Fields::from_vec(fields),
+        next,
+    })
 }
 
 /// The method of the class at a place, behind one with the id `before`.
 #[tactic(auto, unfolding(pi_format::specs::ClassData::method_row))]
-fn one_method(alloc: Global, file: &[u8], numbers: &[NameNo], class: NameNo, before: u32, at: usize) -> Result<MethodRow, SmallFault>
+fn one_method(
+    alloc: Global,
+    file: &[u8],
+    numbers: &[NameNo],
+    class: NameNo,
+    before: u32,
+    at: usize,
+) -> Result<MethodRow, SmallFault>
     requires { IsWhole file.now }
     ensures { Says (method_row file.now numbers.now class before at) result }
 {
@@ -160,11 +187,22 @@ fn one_method(alloc: Global, file: &[u8], numbers: &[NameNo], class: NameNo, bef
         flags,
         code: Some(code),
     };
-    Ok(MethodRow { id: id as u32, desc, next })
+    Ok(MethodRow {
+        id: id as u32,
+        desc,
+        next,
+    })
 }
 
 /// A number of methods of the class, one behind the other.
-fn all_methods(alloc: Global, file: &[u8], numbers: &[NameNo], class: NameNo, count: u32, at: usize) -> Result<MethodList, SmallFault>
+fn all_methods(
+    alloc: Global,
+    file: &[u8],
+    numbers: &[NameNo],
+    class: NameNo,
+    count: u32,
+    at: usize,
+) -> Result<MethodList, SmallFault>
     requires { IsWhole file.now }
     ensures { Says (method_rows count file.now numbers.now class 0 at) result }
 {
@@ -177,12 +215,21 @@ fn all_methods(alloc: Global, file: &[u8], numbers: &[NameNo], class: NameNo, co
         before = row.id;
         next = row.next;
     }
-    Ok(MethodList { methods: Methods::from_vec(methods), next })
+    Ok(MethodList {
+        methods: Methods::from_vec(methods),
+        next,
+    })
 }
 
 /// The class data at an offset: static fields and direct methods alone.
 #[tactic(auto, unfolding(pi_format::specs::ClassData::members_at))]
-fn members(alloc: Global, file: &[u8], numbers: &[NameNo], class: NameNo, at: usize) -> Result<MemberLists, SmallFault>
+fn members(
+    alloc: Global,
+    file: &[u8],
+    numbers: &[NameNo],
+    class: NameNo,
+    at: usize,
+) -> Result<MemberLists, SmallFault>
     requires { IsWhole file.now }
     ensures value { Says (members_at file.now numbers.now class at) result }
     ensures few { IfOk result (λ members. length members.fields < 2 ^ 32) }
@@ -202,7 +249,12 @@ fn members(alloc: Global, file: &[u8], numbers: &[NameNo], class: NameNo, at: us
 
 /// The class of the class definition at a place, as the second file's.
 #[tactic(auto, unfolding(pi_format::specs::ClassData::class_at))]
-pub fn class(alloc: Global, file: &[u8], numbers: &[NameNo], at: usize) -> Result<ClassDesc, SmallFault>
+pub fn class(
+    alloc: Global,
+    file: &[u8],
+    numbers: &[NameNo],
+    at: usize,
+) -> Result<ClassDesc, SmallFault>
     requires whole { IsWhole file.now }
     requires inside { at + 32 ≤ length file.now }
     ensures value { Says (class_at file.now numbers.now at) result }

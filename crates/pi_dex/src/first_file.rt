@@ -1,8 +1,8 @@
 // The first file of the chain as long as the core library is not there: Object, and Out with its native print.
 // docs/dex-format.md states it.
 
-ghost use Rattle.std.specs.Prelude.{◌≡◌, ◌∷◌, [], IfOk};
-ghost use Rattle.pi_format.specs.Core.{core_names, core_types, core_classes, core_program, object_class, out_class, print_method};
+ghost use Rattle.std.specs.Prelude.{◌≡◌, IfOk};
+ghost use Rattle.pi_format.specs.Core.{core_names, core_types, core_program, object_class, out_class, print_method};
 
 use pi_model::describe::{ClassDesc, Classes, Fields, MethodDesc, Methods};
 use pi_model::listed::{Names, Texts};
@@ -13,12 +13,19 @@ use std::alloc::{AllocError, Global};
 
 /// The names of that file, each with its number.
 pub const OBJECT: NameNo = NameNo(0);
+
 pub const OUT: NameNo = NameNo(1);
+
 pub const STRINGS: NameNo = NameNo(2);
+
 pub const VOID: NameNo = NameNo(3);
+
 pub const INT: NameNo = NameNo(4);
+
 pub const PRINT: NameNo = NameNo(5);
+
 pub const MAIN: NameNo = NameNo(6);
+
 pub const CLINIT: NameNo = NameNo(7);
 
 /// The names in the order of their numbers.

@@ -1,7 +1,7 @@
 // What the ids of a file name: types, lists of types, fields, prototypes and methods. docs/dex-format.md states where
 // their entries lie. The numbers are those of the names of the file's string ids, in their order.
 
-ghost use Rattle.std.specs.Prelude.{◌≡◌, ℕ, ◌+◌, ◌*◌, ◌<◌, ◌≤◌, ◌^◌, length, slice_get, IfSome, IfOk};
+ghost use Rattle.std.specs.Prelude.{◌≡◌, ◌+◌, ◌*◌, ◌<◌, ◌≤◌, ◌^◌, length, slice_get, IfSome, IfOk};
 ghost use Rattle.pi_format.specs.Bytes.{half_at, entries};
 ghost use Rattle.pi_format.specs.Ids.{type_at, type_list_at, field_at, proto_at, method_at};
 ghost use Rattle.pi_dex.specs.Says.{Says};
@@ -9,7 +9,7 @@ ghost use Rattle.pi_dex.specs.Whole.{IsWhole};
 
 use crate::bytes::{half, is_in_file, word};
 use crate::fault::SmallFault;
-use crate::tables::{entry, FIELD_IDS, METHOD_IDS, PROTO_IDS, TYPE_IDS};
+use crate::tables::{FIELD_IDS, METHOD_IDS, PROTO_IDS, TYPE_IDS, entry};
 use pi_model::insn::{FieldRef, MethodRef};
 use pi_model::listed::Names;
 use pi_model::numbers::NameNo;
@@ -34,7 +34,13 @@ pub fn type_of(file: &[u8], numbers: &[NameNo], i: usize) -> Option<NameNo>
 }
 
 /// The types of a number of ids that stand one after another.
-fn types_of(alloc: Global, file: &[u8], numbers: &[NameNo], at: usize, count: usize) -> Result<Names, SmallFault>
+fn types_of(
+    alloc: Global,
+    file: &[u8],
+    numbers: &[NameNo],
+    at: usize,
+    count: usize,
+) -> Result<Names, SmallFault>
     requires whole { IsWhole file.now }
     requires inside { at + 2 * count ≤ length file.now }
     ensures { Says (entries (λ i. type_at file.now numbers.now (half_at file.now (at + 2 * i))) 0 count) result }
@@ -111,7 +117,12 @@ fn proto(alloc: Global, file: &[u8], numbers: &[NameNo], i: usize) -> Result<Pro
 
 /// The method that a method id names.
 #[tactic(auto, unfolding(pi_format::specs::Ids::method_at))]
-pub fn method(alloc: Global, file: &[u8], numbers: &[NameNo], i: usize) -> Result<MethodRef, SmallFault>
+pub fn method(
+    alloc: Global,
+    file: &[u8],
+    numbers: &[NameNo],
+    i: usize,
+) -> Result<MethodRef, SmallFault>
     requires { IsWhole file.now }
     ensures value { Says (method_at file.now numbers.now i) result }
     ensures bound { IfOk result (λ _. i < 2 ^ 32) }

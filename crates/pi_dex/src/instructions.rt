@@ -1,6 +1,6 @@
 // The instructions of a small file and the code items that hold them. docs/dex-format.md lists the instructions.
 
-ghost use Rattle.std.specs.Prelude.{◌≡◌, ℕ, ◌+◌, ◌*◌, ◌<◌, ◌≤◌, ◌^◌, length, IfOk};
+ghost use Rattle.std.specs.Prelude.{◌≡◌, ◌+◌, ◌*◌, ◌<◌, ◌≤◌, ◌^◌, length, IfOk};
 ghost use Rattle.pi_format.specs.Instructions.{nibble, insn_at, lines_from, code_at};
 ghost use Rattle.pi_dex.specs.Says.{Says};
 ghost use Rattle.pi_dex.specs.Whole.{IsWhole};
@@ -37,14 +37,24 @@ fn signed_nibble(n: u32) -> u32
 
 /// The opcodes that are read.
 const RETURN_VOID: u16 = 0x0e;
+
 const CONST_4: u16 = 0x12;
+
 const SGET: u16 = 0x60;
+
 const SPUT: u16 = 0x67;
+
 const INVOKE_STATIC: u16 = 0x71;
 
 /// The instruction that begins at a place of the file, where that many units are left.
 #[tactic(auto, unfolding(pi_format::specs::Instructions::insn_at))]
-fn decode(alloc: Global, file: &[u8], numbers: &[NameNo], at: usize, left: u32) -> Result<Decoded, SmallFault>
+fn decode(
+    alloc: Global,
+    file: &[u8],
+    numbers: &[NameNo],
+    at: usize,
+    left: u32,
+) -> Result<Decoded, SmallFault>
     requires whole { IsWhole file.now }
     requires some_left { 1 ≤ left }
     requires inside { at + 2 * left ≤ length file.now }
@@ -55,30 +65,66 @@ fn decode(alloc: Global, file: &[u8], numbers: &[NameNo], at: usize, left: u32) 
     let opcode = unit % 256;
     if opcode == CONST_4 {
         let v = signed_nibble((unit / 4096) as u32);
-        return Ok(Decoded { insn: Insn::Const { a: unit / 256 % 16, v }, units: 1 });
+        return Ok(Decoded {
+            insn: Insn::Const {
+                a: unit / 256 % 16,
+                v,
+            },
+            units: 1,
+        });
     }
     if unit == RETURN_VOID {
-        return Ok(Decoded { insn: Insn::ReturnVoid, units: 1 });
+        return Ok(Decoded {
+            insn: Insn::ReturnVoid,
+            units: 1,
+        });
     }
     if opcode == SGET && left >= 2 {
         let f = field(file, numbers, half(file, at + 2) as usize).ok_or(SmallFault::NotSmall)?;
-        return Ok(Decoded { insn: Insn::Sget { kind: Access::Plain, a: unit / 256, f }, units: 2 });
+        return Ok(Decoded {
+            insn: Insn::Sget {
+                kind: Access::Plain,
+                a: unit / 256,
+                f,
+            },
+            units: 2,
+        });
     }
     if opcode == SPUT && left >= 2 {
         let f = field(file, numbers, half(file, at + 2) as usize).ok_or(SmallFault::NotSmall)?;
-        return Ok(Decoded { insn: Insn::Sput { kind: Access::Plain, a: unit / 256, f }, units: 2 });
+        return Ok(Decoded {
+            insn: Insn::Sput {
+                kind: Access::Plain,
+                a: unit / 256,
+                f,
+            },
+            units: 2,
+        });
     }
     if opcode == INVOKE_STATIC && left >= 3 && unit / 4096 == 1 {
         let m = method(alloc, file, numbers, half(file, at + 2) as usize)?;
         let mut regs = Regs::new(alloc);
         regs.push(half(file, at + 4) % 16)?;
-        return Ok(Decoded { insn: Insn::Invoke { how: How::Static, m, regs }, units: 3 });
+        return Ok(Decoded {
+            insn: Insn::Invoke {
+                how: How::Static,
+                m,
+                regs,
+            },
+            units: 3,
+        });
     }
     Err(SmallFault::NotSmall)
 }
 
 /// The instructions of a code whose units begin at a place, with no rest.
-fn lines(alloc: Global, file: &[u8], numbers: &[NameNo], begin: usize, units: u32) -> Result<Insns, SmallFault>
+fn lines(
+    alloc: Global,
+    file: &[u8],
+    numbers: &[NameNo],
+    begin: usize,
+    units: u32,
+) -> Result<Insns, SmallFault>
     requires whole { IsWhole file.now }
     requires inside { begin + 2 * units ≤ length file.now }
     ensures { Says (lines_from units file.now numbers.now units begin 0) result }
@@ -90,10 +136,17 @@ fn lines(alloc: Global, file: &[u8], numbers: &[NameNo], begin: usize, units: u3
             return Ok(Insns::from_vec(lines));
         }
         let here = decode(alloc, file, numbers, begin + 2 * at as usize, units - at)?;
-        lines.push(Line { at, units: here.units, insn: here.insn })?;
+        lines.push(Line {
+            at,
+            units: here.units,
+            insn: here.insn,
+        })?;
         at += here.units;
     }
-    if at == units { Ok(Insns::from_vec(lines)) } else { Err(SmallFault::NotSmall) }
+    if at != units {
+        return Err(SmallFault::NotSmall);
+    }
+    Ok(Insns::from_vec(lines))
 }
 
 /// The code of the code item at an offset.

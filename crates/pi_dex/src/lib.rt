@@ -2,10 +2,10 @@
 // X5 and X8 that are tested first.
 #![tactic(auto)]
 
-ghost use Rattle.std.specs.Prelude.{◌≡◌, ◌+◌, ◌++◌, ◌&&◌, ◌≤◌, ◌<◌, ◌^◌, length, Err, None, Some, true, IfOk};
+ghost use Rattle.std.specs.Prelude.{◌≡◌, ◌+◌, ◌++◌, ◌&&◌, ◌≤◌, ◌<◌, ◌^◌, length, true, IfOk};
 ghost use Rattle.pi_format.specs.Core.{core_names, core_program};
 ghost use Rattle.pi_format.specs.Small.{class_fits, has_text, small_chain, small_class, small_program};
-ghost use Rattle.pi_format.specs.Tables.{tables_hold, count_at, table_at, class_defs};
+ghost use Rattle.pi_format.specs.Tables.{count_at, class_defs};
 ghost use Rattle.pi_dex.specs.Says.{Says};
 ghost use Rattle.pi_dex.specs.Whole.{IsWhole};
 
@@ -19,19 +19,18 @@ mod names;
 mod small;
 mod tables;
 
-pub use fault::SmallFault;
-pub use first_file::core;
-
 use bytes::word;
 use class_data::class;
-use names::{number, NumberedTexts};
+pub use fault::SmallFault;
+pub use first_file::core;
+use names::{NumberedTexts, number};
 use pi_model::describe::{ClassDesc, Classes};
 use pi_model::listed::{Names, Texts, Units};
 use pi_model::prog::Prog;
 use pi_model::texts::text_of;
 use small::{fits_class, is_called};
 use std::alloc::{AllocError, Global};
-use tables::{entry, hold_tables, holds_header, string_count, strings, CLASS_DEFS};
+use tables::{CLASS_DEFS, entry, hold_tables, holds_header, string_count, strings};
 
 /// The program that a small file says, with the first file before it.
 ///
@@ -53,7 +52,13 @@ pub fn read_small(alloc: Global, main: &[u8], file: &[u8]) -> Result<Prog, Small
 
 /// The chain of the first file and one whose texts are numbered, where its class is small for the main class.
 #[tactic(auto, unfolding(pi_format::specs::Small::small_class))]
-fn chain(alloc: Global, main: &[u8], file: &[u8], first: Prog, known: NumberedTexts) -> Result<Prog, SmallFault>
+fn chain(
+    alloc: Global,
+    main: &[u8],
+    file: &[u8],
+    first: Prog,
+    known: NumberedTexts,
+) -> Result<Prog, SmallFault>
     requires whole { IsWhole file.now }
     requires one_class { count_at file.now class_defs ≡ 1 }
     requires first { first ≡ core_program }
@@ -80,7 +85,12 @@ fn is_small(first: &Prog, new: &[Units], class: &ClassDesc, main: &[u16]) -> boo
 
 /// The chain of the first file and one more with these new names and this class.
 #[tactic(auto, using(crate::proofs::Places::core_names_are_few), unfolding(pi_format::specs::Small::class_fits, pi_format::specs::Small::small_chain))]
-fn with_class(alloc: Global, mut prog: Prog, new: Texts, class: ClassDesc) -> Result<Prog, AllocError>
+fn with_class(
+    alloc: Global,
+    mut prog: Prog,
+    new: Texts,
+    class: ClassDesc,
+) -> Result<Prog, AllocError>
     requires first { prog ≡ core_program }
     requires names { length new ≤ 16777216 }
     requires fields { length class.fields < 2 ^ 32 }
@@ -93,4 +103,19 @@ fn with_class(alloc: Global, mut prog: Prog, new: Texts, class: ClassDesc) -> Re
     classes.push(class)?;
     prog.add_file(new, types, classes)?;
     Ok(prog)
+}
+
+#[cfg(test)]
+mod tests {
+    use super::core;
+    use std::test::Fail;
+
+    #[test]
+    fn first_file(rt: HostRuntime) -> Result<(), Fail> {
+        let prog = core(rt.alloc())?;
+        assert_eq!(rt; prog.names(), 8);
+        assert_eq!(rt; prog.classes(), 2);
+        assert_eq!(rt; prog.files(), 1);
+        Ok(())
+    }
 }

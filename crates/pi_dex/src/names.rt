@@ -1,7 +1,7 @@
 // Numbers the texts of a file's strings: a text that is a name already keeps its number, a new one takes the next.
 // docs/dex-format.md states it. Names are contents, so two string ids of one content are one name.
 
-ghost use Rattle.std.specs.Prelude.{◌≡◌, ◌+◌, ◌^◌, ◌<◌, ◌≤◌, ◌++◌, [], length, position, option_map, IfSome, IfOk};
+ghost use Rattle.std.specs.Prelude.{◌≡◌, ◌+◌, ◌^◌, ◌<◌, ◌≤◌, ◌++◌, length, position, option_map, IfSome, IfOk};
 ghost use Rattle.pi_model.specs.Texts.{same_text};
 ghost use Rattle.pi_format.specs.Names.{with_text, numbered};
 
@@ -30,7 +30,9 @@ fn place_of(texts: &[Units], text: &[u16]) -> Option<usize>
     ensures value { result ≡ position (same_text text.now) texts.now }
     ensures inside { IfSome result (λ at. at < length texts.now) }
 {
-    texts.iter().position(|name| same_text(text, name.as_slice()))
+    texts
+        .iter()
+        .position(|name| same_text(text, name.as_slice()))
 }
 
 /// The number of a text that is a name of the program or one of the new ones behind them.
@@ -52,7 +54,10 @@ fn note(prog: &Prog, so_far: NumberedTexts, text: &Units) -> Result<NumberedText
     ensures value { IfOk result (λ known. known ≡ with_text prog.now.names so_far text.now) }
     ensures grows { IfOk result (λ known. length known.new ≤ length so_far.new + 1) }
 {
-    let NumberedTexts { mut new, mut numbers } = so_far;
+    let NumberedTexts {
+        mut new,
+        mut numbers,
+    } = so_far;
     match number_of(prog, new.as_slice(), text.as_slice()) {
         Some(number) => numbers.push(number)?,
         None => {

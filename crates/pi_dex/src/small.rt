@@ -81,7 +81,10 @@ fn stands_among(field: &FieldDesc, others: &[FieldDesc]) -> bool
 fn names_print(m: &MethodRef) -> bool
     ensures { result ≡ is_print m.now }
 {
-    is_same(m.class, OUT) && is_same(m.name, PRINT) && are_same(m.params.as_slice(), &[INT]) && is_same(m.ret, VOID)
+    is_same(m.class, OUT)
+        && is_same(m.name, PRINT)
+        && are_same(m.params.as_slice(), &[INT])
+        && is_same(m.ret, VOID)
 }
 
 /// Whether a list is one register below a number.
@@ -116,9 +119,21 @@ fn fits_insn(class: &ClassDesc, words: u16, insn: &Insn) -> bool
 {
     match insn {
         Insn::Const { a, .. } => *a < words,
-        Insn::Sget { kind: Access::Plain, a, f } => *a < words && is_own(class, *f),
-        Insn::Sput { kind: Access::Plain, a, f } => *a < words && is_own(class, *f),
-        Insn::Invoke { how: How::Static, m, regs } => names_print(m) && is_one_below(words, regs.as_slice()),
+        Insn::Sget {
+            kind: Access::Plain,
+            a,
+            f,
+        } => *a < words && is_own(class, *f),
+        Insn::Sput {
+            kind: Access::Plain,
+            a,
+            f,
+        } => *a < words && is_own(class, *f),
+        Insn::Invoke {
+            how: How::Static,
+            m,
+            regs,
+        } => names_print(m) && is_one_below(words, regs.as_slice()),
         Insn::ReturnVoid => true,
         _ => false,
     }
@@ -156,7 +171,10 @@ fn fits_code(class: &ClassDesc, ins: u16, code: &Option<Code>) -> bool
         return false;
     };
     let lines = code.insns.as_slice();
-    code.ins == ins && ins <= code.regs && fit_lines(class, code.regs - ins, lines) && end_in_return(lines)
+    code.ins == ins
+        && ins <= code.regs
+        && fit_lines(class, code.regs - ins, lines)
+        && end_in_return(lines)
 }
 
 /// Whether a method is static, without result, of that name, and with parameters of those types and that many words.
@@ -188,7 +206,8 @@ fn fit_methods(class: &ClassDesc, methods: &[MethodDesc]) -> bool
 {
     match methods {
         [only] => fits_main(class, only),
-        [a, b] => (fits_main(class, a) && fits_clinit(class, b)) || (fits_clinit(class, a) && fits_main(class, b)),
+        [a, b] => (fits_main(class, a) && fits_clinit(class, b))
+            || (fits_clinit(class, a) && fits_main(class, b)),
         _ => false,
     }
 }

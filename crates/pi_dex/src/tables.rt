@@ -16,10 +16,15 @@ use std::alloc::Global;
 
 /// The places of the header's fields: a table's size stands there, its offset four bytes later.
 pub const STRING_IDS: usize = 56;
+
 pub const TYPE_IDS: usize = 64;
+
 pub const PROTO_IDS: usize = 72;
+
 pub const FIELD_IDS: usize = 80;
+
 pub const METHOD_IDS: usize = 88;
+
 pub const CLASS_DEFS: usize = 96;
 
 /// Whether the header is whole and says the version, order and length (rules X1 to X5).

@@ -1,4 +1,4 @@
-use Rattle.std.proofs.Common.{◌≡◌, ℕ, suc, ◌+◌, ◌-◌, Option, Some, None, length, sym, ap, ◌∙◌, arith}
+use Rattle.std.proofs.Common.{◌≡◌, suc, ◌+◌, ◌-◌, Some, None, length, sym, ap, ◌∙◌, arith}
 use Rattle.std.proofs.lemmas.List.{length_push}
 use Rattle.pi_format.specs.ClassData.{Read, read_to, Field, field_row}
 use Rattle.pi_dex.proofs.Rows.{fields_more, fields_stop}
@@ -15,9 +15,9 @@ loop-preserved c =
     let row : Read Field = read_to (record { id = c.row.inside.id; desc = c.row.inside.desc }) c.row.inside.next in
     let left : c.args.count - c.loop.counter ≡ suc (c.args.count - (c.loop.counter + 1)) = omega arith in
     let is : field_row c.args.file.now c.args.numbers.now c.args.class c.loop.before c.loop.next ≡ Some row =
-      sym c.one_field.ensures ∙ c.in-Some.is ∙ ap Some (sym c.row.view_is) in
+    sym c.one_field.ensures ∙ c.in-Some.is ∙ ap Some (sym c.row.view_is) in
     let items = c.in_ok-push.ensures.items in
     record {
       counted = ap length items ∙ length_push c.loop.fields.items c.row.inside.desc ∙ ap (λ k. k + 1) c.loop.invariant.counted;
-      so_far = rw items (fields_more c.loop.fields.items _ _ _ _ _ _ _ row left is ∙ c.loop.invariant.so_far)
+      so_far = rw items (fields_more c.loop.fields.items _ _ _ _ _ _ _ row left is ∙ c.loop.invariant.so_far);
     }

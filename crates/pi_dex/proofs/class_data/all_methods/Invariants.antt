@@ -5,7 +5,7 @@ use Rattle.pi_dex.proofs.class_data.all_methods.Given as goal
 
 abbrev pub invariant-loop : goal.invariant-loop
 invariant-loop l = record {
-    counted : length l.methods.items ≡ l.counter;
-    so_far : behind_read l.methods.items (method_rows (l.count - l.counter) l.file l.numbers l.class l.before l.next)
-      ≡ method_rows l.count l.file l.numbers l.class 0 l.at
-  }
+  counted : length l.methods.items ≡ l.counter;
+  so_far : behind_read l.methods.items (method_rows (l.count - l.counter) l.file l.numbers l.class l.before l.next)
+      ≡ method_rows l.count l.file l.numbers l.class 0 l.at;
+}

@@ -1,8 +1,8 @@
-use Rattle.std.proofs.Common.{◌≡◌, ℕ, ◌+◌, ◌*◌, Option, Some, None, sym, ◌∙◌, ap, arith}
+use Rattle.std.proofs.Common.{◌≡◌, ℕ, ◌+◌, ◌*◌, Option, Some, None, sym, ◌∙◌, arith}
 use Rattle.pi_model.specs.declared.numbers.NameNo.{NameNo}
 use Rattle.pi_format.specs.Bytes.{half_at}
 use Rattle.pi_format.specs.Ids.{type_at}
-use Rattle.pi_dex.proofs.Lists.{behind, entries_more, entries_stop}
+use Rattle.pi_dex.proofs.Lists.{entries_more, entries_stop}
 use Rattle.pi_dex.proofs.ids.types_of.Goals as goal
 
 pub returns-in_default : goal.returns-in_default

@@ -5,7 +5,7 @@ use Rattle.pi_dex.proofs.instructions.lines.Given as goal
 
 abbrev pub invariant-loop : goal.invariant-loop
 invariant-loop l = record {
-    inside : l.at ≤ l.units;
-    so_far : behind l.lines.items (lines_from (l.units - l.counter) l.file l.numbers l.units l.begin l.at)
-      ≡ lines_from l.units l.file l.numbers l.units l.begin 0
-  }
+  inside : l.at ≤ l.units;
+  so_far : behind l.lines.items (lines_from (l.units - l.counter) l.file l.numbers l.units l.begin l.at)
+      ≡ lines_from l.units l.file l.numbers l.units l.begin 0;
+}

@@ -1,8 +1,8 @@
-use Rattle.std.proofs.Common.{◌≡◌, ℕ, ◌+◌, ◌*◌, List, Option, Some, None, length, sym, ◌∙◌, ap, arith}
+use Rattle.std.proofs.Common.{◌≡◌, ℕ, ◌+◌, List, Option, None, length, sym, ◌∙◌, ap, arith}
 use Rattle.std.proofs.lemmas.List.{length_push}
 use Rattle.pi_format.specs.Tables.{string_at}
 use Rattle.pi_format.specs.Bytes.{entries}
-use Rattle.pi_dex.proofs.Lists.{behind, entries_more, entries_stop, entries_done, says_passed}
+use Rattle.pi_dex.proofs.Lists.{entries_more, entries_stop, says_passed}
 use Rattle.pi_dex.proofs.tables.strings.Goals as goal
 
 pub returns-in_err-text-clause-value : goal.returns-in_err-text-clause-value
@@ -17,5 +17,5 @@ loop-i-preserved c =
     let items = c.in_ok-push.ensures.items in
     record {
       counted = ap length items ∙ length_push c.loop-i.texts.items c.in_ok-text.text ∙ ap (λ k. k + 1) c.loop-i.invariant.counted;
-      so_far = rw items (entries_more f c.loop-i.texts.items c.loop-i.i c.args.count c.in_ok-text.text (omega arith) c.in_ok-text.ensures ∙ c.loop-i.invariant.so_far)
+      so_far = rw items (entries_more f c.loop-i.texts.items c.loop-i.i c.args.count c.in_ok-text.text (omega arith) c.in_ok-text.ensures ∙ c.loop-i.invariant.so_far);
     }
