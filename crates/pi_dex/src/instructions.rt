@@ -1,7 +1,10 @@
 // The instructions of a small file and the code items that hold them. docs/dex-format.md lists the instructions.
 
-ghost use Rattle.std.specs.Prelude.{◌≡◌, ◌+◌, ◌*◌, ◌<◌, ◌≤◌, ◌^◌, length, IfOk};
-ghost use Rattle.pi_format.specs.Instructions.{nibble, insn_at, lines_from, code_at};
+ghost use Rattle.std.specs.Prelude.{◌≡◌, ◌+◌, ◌*◌, ◌/◌, ◌%◌, ◌<◌, ◌≤◌, ◌^◌, length, IfOk};
+ghost use Rattle.pi_model.specs.declared.insn.Insn.TheVariants.{Const, Sget, Sput, Invoke};
+ghost use Rattle.pi_model.specs.declared.insn.Access.TheVariants.{Plain};
+ghost use Rattle.pi_model.specs.declared.insn.How.TheVariants.{Static};
+ghost use Rattle.pi_format.specs.Instructions.{decoded, nibble, insn_at, lines_from, code_at};
 ghost use Rattle.pi_dex.specs.Says.{Says};
 ghost use Rattle.pi_dex.specs.Whole.{IsWhole};
 
@@ -9,7 +12,7 @@ use crate::bytes::{half, is_in_file, word};
 use crate::fault::SmallFault;
 use crate::ids::{field, method};
 use pi_model::describe::{Code, Insns, Line, Tries};
-use pi_model::insn::{Access, How, Insn, Regs};
+use pi_model::insn::{Access, FieldRef, How, Insn, MethodRef, Regs};
 use pi_model::numbers::NameNo;
 use std::alloc::Global;
 use std::marker::Model;
@@ -46,6 +49,51 @@ const SPUT: u16 = 0x67;
 
 const INVOKE_STATIC: u16 = 0x71;
 
+fn with_length(insn: Insn, units: u32) -> Decoded
+    ensures { result ≡ decoded insn units }
+{
+    Decoded { insn, units }
+}
+
+fn const_4(unit: u16) -> Insn
+    ensures { result ≡ Const (unit / 256 % 16) (nibble (unit / 4096)) }
+{
+    Insn::Const {
+        a: unit / 256 % 16,
+        v: signed_nibble((unit / 4096) as u32),
+    }
+}
+
+fn sget(a: u16, f: FieldRef) -> Insn
+    ensures { result ≡ Sget Plain a f }
+{
+    Insn::Sget {
+        kind: Access::Plain,
+        a,
+        f,
+    }
+}
+
+fn sput(a: u16, f: FieldRef) -> Insn
+    ensures { result ≡ Sput Plain a f }
+{
+    Insn::Sput {
+        kind: Access::Plain,
+        a,
+        f,
+    }
+}
+
+fn invoke_static(m: MethodRef, regs: Regs) -> Insn
+    ensures { result ≡ Invoke Static m regs }
+{
+    Insn::Invoke {
+        how: How::Static,
+        m,
+        regs,
+    }
+}
+
 /// The instruction that begins at a place of the file, where that many units are left.
 #[tactic(auto, unfolding(pi_format::specs::Instructions::insn_at))]
 fn decode(
@@ -64,55 +112,24 @@ fn decode(
     let unit = half(file, at);
     let opcode = unit % 256;
     if opcode == CONST_4 {
-        let v = signed_nibble((unit / 4096) as u32);
-        return Ok(Decoded {
-            insn: Insn::Const {
-                a: unit / 256 % 16,
-                v,
-            },
-            units: 1,
-        });
+        return Ok(with_length(const_4(unit), 1));
     }
     if unit == RETURN_VOID {
-        return Ok(Decoded {
-            insn: Insn::ReturnVoid,
-            units: 1,
-        });
+        return Ok(with_length(Insn::ReturnVoid, 1));
     }
     if opcode == SGET && left >= 2 {
         let f = field(file, numbers, half(file, at + 2) as usize).ok_or(SmallFault::NotSmall)?;
-        return Ok(Decoded {
-            insn: Insn::Sget {
-                kind: Access::Plain,
-                a: unit / 256,
-                f,
-            },
-            units: 2,
-        });
+        return Ok(with_length(sget(unit / 256, f), 2));
     }
     if opcode == SPUT && left >= 2 {
         let f = field(file, numbers, half(file, at + 2) as usize).ok_or(SmallFault::NotSmall)?;
-        return Ok(Decoded {
-            insn: Insn::Sput {
-                kind: Access::Plain,
-                a: unit / 256,
-                f,
-            },
-            units: 2,
-        });
+        return Ok(with_length(sput(unit / 256, f), 2));
     }
     if opcode == INVOKE_STATIC && left >= 3 && unit / 4096 == 1 {
         let m = method(alloc, file, numbers, half(file, at + 2) as usize)?;
         let mut regs = Regs::new(alloc);
         regs.push(half(file, at + 4) % 16)?;
-        return Ok(Decoded {
-            insn: Insn::Invoke {
-                how: How::Static,
-                m,
-                regs,
-            },
-            units: 3,
-        });
+        return Ok(with_length(invoke_static(m, regs), 3));
     }
     Err(SmallFault::NotSmall)
 }
