@@ -34,8 +34,8 @@ field_row file numbers class before at = do
   flags ← uleb_at file difference.1
   f ← field_at file numbers (before + difference.0)
   if same_name f.class class
-    then Some (read_to (record { id = before + difference.0; desc = record { name = f.name; ty = f.ty; flags = flags.0; init = Zero } }) flags.1)
-    else None
+      then Some (read_to (record { id = before + difference.0; desc = record { name = f.name; ty = f.ty; flags = flags.0; init = Zero } }) flags.1)
+      else None
 
 -- that many fields
 abbrev pub field_rows : ℕ → List ℕ → List NameNo → NameNo → ℕ → ℕ → Option (Read (List FieldDesc))
@@ -54,8 +54,8 @@ method_row file numbers class before at = do
   m ← method_at file numbers (before + difference.0)
   code ← code_at file numbers code_off.0
   if same_name m.class class
-    then Some (read_to (record { id = before + difference.0; desc = record { name = m.name; params = m.params; ret = m.ret; flags = flags.0; code = Some code } }) code_off.1)
-    else None
+      then Some (read_to (record { id = before + difference.0; desc = record { name = m.name; params = m.params; ret = m.ret; flags = flags.0; code = Some code } }) code_off.1)
+      else None
 
 -- that many methods
 abbrev pub method_rows : ℕ → List ℕ → List NameNo → NameNo → ℕ → ℕ → Option (Read (List MethodDesc))
@@ -77,10 +77,10 @@ members_at file numbers class at = do
   directs ← uleb_at file instances.1
   virtuals ← uleb_at file directs.1
   if (instances.0 == 0) && (virtuals.0 == 0) then (do
-      fields ← field_rows statics.0 file numbers class 0 virtuals.1
-      methods ← method_rows directs.0 file numbers class 0 fields.next
-      Some (record { fields = fields.value; methods = methods.value }))
-    else None
+    fields ← field_rows statics.0 file numbers class 0 virtuals.1
+    methods ← method_rows directs.0 file numbers class 0 fields.next
+    Some (record { fields = fields.value; methods = methods.value }))
+      else None
 
 -- the class of a class definition at a place, in the second file: it implements nothing and gives no static values
 unfoldable pub class_at : List ℕ → List NameNo → ℕ → Option ClassDesc
@@ -90,7 +90,12 @@ class_at file numbers at =
       parent ← type_at file numbers (word_at file (at + 8))
       members ← members_at file numbers name (word_at file (at + 24))
       Some (record {
-          file = record { 0 = 1 }; name = name; flags = word_at file (at + 4); parent = Some parent; faces = [];
-          fields = members.fields; methods = members.methods
-        }))
+        file = record { 0 = 1 };
+        name = name;
+        flags = word_at file (at + 4);
+        parent = Some parent;
+        faces = [];
+        fields = members.fields;
+        methods = members.methods;
+      }))
     else None

@@ -44,19 +44,34 @@ core_types = object_name ∷ out_name ∷ strings_name ∷ void_name ∷ int_nam
 -- flags: public 0x1, static 0x8, native 0x100
 abbrev pub object_class : ClassDesc
 object_class = record {
-    file = record { 0 = 0 }; name = object_name; flags = 1; parent = None; faces = []; fields = []; methods = []
-  }
+  file = record { 0 = 0 };
+  name = object_name;
+  flags = 1;
+  parent = None;
+  faces = [];
+  fields = [];
+  methods = [];
+}
 
 abbrev pub print_method : MethodDesc
 print_method = record {
-    name = print_name; params = int_name ∷ []; ret = void_name; flags = 0x109; code = None
-  }
+  name = print_name;
+  params = int_name ∷ [];
+  ret = void_name;
+  flags = 0x109;
+  code = None;
+}
 
 abbrev pub out_class : ClassDesc
 out_class = record {
-    file = record { 0 = 0 }; name = out_name; flags = 1; parent = Some object_name; faces = []; fields = [];
-    methods = print_method ∷ []
-  }
+  file = record { 0 = 0 };
+  name = out_name;
+  flags = 1;
+  parent = Some object_name;
+  faces = [];
+  fields = [];
+  methods = print_method ∷ [];
+}
 
 abbrev pub core_classes : List ClassDesc
 core_classes = object_class ∷ out_class ∷ []

@@ -58,7 +58,11 @@ code_at file numbers at =
     then (do
       lines ← lines_from (word_at file (at + 12)) file numbers (word_at file (at + 12)) (at + 16) 0
       Some (record {
-          regs = half_at file at; ins = half_at file (at + 2); outs = half_at file (at + 4);
-          units = word_at file (at + 12); insns = lines; tries = []
-        }))
+        regs = half_at file at;
+        ins = half_at file (at + 2);
+        outs = half_at file (at + 4);
+        units = word_at file (at + 12);
+        insns = lines;
+        tries = [];
+      }))
     else None

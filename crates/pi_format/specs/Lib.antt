@@ -7,3 +7,4 @@ pub mod Ids
 pub mod Instructions
 pub mod ClassData
 pub mod Small
+pub mod Shape

@@ -13,9 +13,9 @@ pub record Numbered : Type 0 where
 abbrev pub noted : List (List ℕ) → Numbered → List ℕ → Option ℕ → Numbered
 noted old so_far text (Some n) = record { new = so_far.new; numbers = so_far.numbers ++ name_no n ∷ [] }
 noted old so_far text None = record {
-    new = so_far.new ++ text ∷ [];
-    numbers = so_far.numbers ++ name_no (length old + length so_far.new) ∷ []
-  }
+  new = so_far.new ++ text ∷ [];
+  numbers = so_far.numbers ++ name_no (length old + length so_far.new) ∷ [];
+}
 
 abbrev pub with_text : List (List ℕ) → Numbered → List ℕ → Numbered
 with_text old so_far text = noted old so_far text (position (same_text text) (old ++ so_far.new))

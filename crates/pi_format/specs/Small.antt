@@ -104,22 +104,21 @@ parent_fits None = false
 parent_fits (Some parent) = same_name parent object_name
 
 -- the class is no class of the first file, stands below Object, and has static ints and the two methods alone
-unfoldable pub class_fits : ClassDesc → Bool
+abbrev pub class_fits : ClassDesc → Bool
 class_fits d =
     not (same_name d.name object_name) && (not (same_name d.name out_name) && (parent_fits d.parent
     && (list_all field_fits d.fields && (all_distinct same_field d.fields && methods_fit d d.methods))))
 
--- there is a text, and it is this one
-abbrev pub is_text : Option (List ℕ) → List ℕ → Bool
-is_text None text = false
-is_text (Some units) text = same_text units text
-
 -- the name has this text
-unfoldable pub has_text : List (List ℕ) → NameNo → List ℕ → Bool
-has_text names n text = is_text (slice_get names n.0) text
+abbrev pub has_text : List (List ℕ) → NameNo → List ℕ → Bool
+has_text names n text = is_text (slice_get names n.0)
+  where
+    is_text : Option (List ℕ) → Bool
+    is_text None = false
+    is_text (Some units) = same_text units text
 
 -- the program of the first file and one more, which has these new names and this class
-unfoldable pub small_chain : List (List ℕ) → ClassDesc → Program
+abbrev pub small_chain : List (List ℕ) → ClassDesc → Program
 small_chain new d = with_file core_program new (d.name ∷ []) (d ∷ [])
 
 -- the class of a file whose texts are numbered so, where it is small for the main class of that text

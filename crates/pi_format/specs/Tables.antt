@@ -48,8 +48,8 @@ unfoldable pub table_holds : List ℕ → ℕ → ℕ → Bool
 table_holds file place width =
     (count_at file place == 0)
     || ((table_at file place % 4 == 0)
-        && nat_le 112 (table_at file place)
-        && nat_le (table_at file place + width * count_at file place) (length file))
+    && nat_le 112 (table_at file place)
+    && nat_le (table_at file place + width * count_at file place) (length file))
 
 -- all six tables hold, and there are at most 65,535 types and prototypes (rule X8)
 unfoldable pub tables_hold : List ℕ → Bool
@@ -71,7 +71,7 @@ is_plain b = nat_lt 0 b && nat_lt b 128
 unfoldable pub text_at : List ℕ → ℕ → Option (List ℕ)
 text_at file at =
     if nat_lt (byte_at file at) 128 && in_file file at (byte_at file at + 2) && (byte_at file (at + 1 + byte_at file at) == 0)
-        && list_all is_plain (take (byte_at file at) (drop (at + 1) file))
+    && list_all is_plain (take (byte_at file at) (drop (at + 1) file))
     then Some (take (byte_at file at) (drop (at + 1) file))
     else None
 

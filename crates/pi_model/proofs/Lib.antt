@@ -1,2 +1,3 @@
 -- Lemmas, and examples of the definitions.
 pub mod Members
+mod Examples

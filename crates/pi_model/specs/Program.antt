@@ -1,6 +1,8 @@
 -- The program of a chain of files as plain data: its names, its types, its classes, and what each file brought.
 use Rattle.std.specs.Prelude.{ℕ, ◌+◌, ◌^◌, ◌<◌, ◌≤◌, ◌==◌, not, List, [], ◌∷◌, ◌++◌, length, take, filter, sum_by, Bool}
 use Rattle.std.specs.List.{list_any}
+use Rattle.std.proofs.Common.{arith, refl}
+use Rattle.std.proofs.lemmas.List.Filters.{length-filter_both}
 use Rattle.pi_model.specs.declared.numbers.NameNo.{NameNo}
 use Rattle.pi_model.specs.declared.describe.ClassDesc.{ClassDesc}
 
@@ -27,6 +29,11 @@ same_name a b = a.0 == b.0
 -- the types of a file that the files before it did not name
 abbrev pub new_types : List NameNo → List NameNo → List NameNo
 new_types old types = filter (λ t. not (list_any (same_name t) old)) types
+
+-- no more types are new than there are
+pub new_types_bound : (old types : List NameNo) → length (new_types old types) ≤ length types
+new_types_bound old types =
+    omega (arith, length-filter_both (λ t. not (list_any (same_name t) old)) (λ t. not (not (list_any (same_name t) old))) (λ _. refl) types)
 
 -- a chain with one more file: its new names, then the types that were not there, then its classes
 abbrev pub with_file : Program → List (List ℕ) → List NameNo → List ClassDesc → Program

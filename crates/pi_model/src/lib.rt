@@ -8,4 +8,6 @@ pub mod listed;
 pub mod numbers;
 pub mod prog;
 pub mod reason;
+#[cfg(test)]
+mod tests;
 pub mod texts;

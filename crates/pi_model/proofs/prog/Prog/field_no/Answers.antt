@@ -1,4 +1,4 @@
-use Rattle.std.proofs.Common.{arith, ◌≡◌, ℕ, ◌+◌, take, sum_by, refl}
+use Rattle.std.proofs.Common.{arith}
 use Rattle.pi_model.specs.Program.{field_count}
 use Rattle.pi_model.proofs.Members.{below_all, member_back}
 use Rattle.pi_model.proofs.prog.Prog.field_no.Goals as goal

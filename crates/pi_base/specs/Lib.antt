@@ -1,0 +1,5 @@
+pub mod Counters
+pub mod MemSink
+pub mod MemStore
+pub mod Outside
+pub mod Status

@@ -1,0 +1,34 @@
+-- What a command owes is one thing at most, since a run has one end at most.
+use Rattle.std.proofs.Common.{◌≡◌, ℕ, List, [], Option, Some, None, Bool, true, false, sym, ◌∙◌, ap}
+use Rattle.std.specs.Prelude.{nat_lt, length}
+use Rattle.pi_model.specs.Program.{Program}
+use Rattle.pi_format.specs.Small.{small_program}
+use Rattle.pi_machine.specs.Start.{main_of}
+use Rattle.pi_machine.specs.Ends.{Finish}
+use Rattle.pi_machine.proofs.RunLaws.{run_end_unique}
+use Rattle.pi_duty.specs.Words.{LazyWords, lazy_words}
+use Rattle.pi_duty.specs.Duty.{Contents, Owed, RunOwes, FileOwes, LengthOwes, LazyOwes, CommandOwes, Owes, OwesOnce, ended, lazy_setting, most_bytes}
+
+run_once : (p : Program) (steps : ℕ) (main : Option ℕ) (a b : Owed) → RunOwes p steps main a → RunOwes p steps main b → a ≡ b
+run_once p steps None a b x y = x ∙ sym y
+run_once p steps (Some main) a b x y =
+    x.1.1 ∙ (ap (ended p) (run_end_unique p (lazy_setting steps) main [] x.0 y.0 x.1.0 y.1.0) ∙ sym y.1.1)
+
+file_once : (l : LazyWords) (p : Option Program) (a b : Owed) → FileOwes l p a → FileOwes l p b → a ≡ b
+file_once l None a b x y = x ∙ sym y
+file_once l (Some p) a b x y = run_once p l.steps (main_of p l.main) a b x y
+
+length_once : (long : Bool) (l : LazyWords) (file : List ℕ) (a b : Owed) → LengthOwes long l file a → LengthOwes long l file b → a ≡ b
+length_once true l file a b x y = x ∙ sym y
+length_once false l file a b x y = file_once l (small_program l.main file) a b x y
+
+lazy_once : (l : LazyWords) (file : Option (List ℕ)) (a b : Owed) → LazyOwes l file a → LazyOwes l file b → a ≡ b
+lazy_once l None a b x y = x ∙ sym y
+lazy_once l (Some file) a b x y = length_once (nat_lt most_bytes (length file)) l file a b x y
+
+command_once : (l : Option LazyWords) (contents : Contents) (a b : Owed) → CommandOwes l contents a → CommandOwes l contents b → a ≡ b
+command_once None contents a b x y = x ∙ sym y
+command_once (Some l) contents a b x y = lazy_once l (contents l.file) a b x y
+
+pub owes_one : OwesOnce
+owes_one = λ words contents a b x y. command_once (lazy_words words) contents a b x y

@@ -1,0 +1,103 @@
+-- What a command owes for its words and for what the store holds: a relation, since a run has an end only where the
+-- machine gives it one. Want of memory and faults of the store or of a sink are no part of it.
+use Rattle.std.specs.Prelude.{◌≡◌, ℕ, nat_lt, List, [], ◌++◌, length, Option, Some, None, Bool, true, false}
+use Rattle.pi_base.specs.declared.status.Status.{Status}
+use Rattle.pi_base.specs.declared.status.Status.TheVariants.{Done, Uncaught, Usage, Missing, Steps, Heap, Frames, TooLarge, NotBuilt}
+use Rattle.pi_model.specs.Program.{Program}
+use Rattle.pi_model.specs.Search.{class_at}
+use Rattle.pi_model.specs.Sizes.{units_of}
+use Rattle.pi_model.specs.declared.describe.ClassDesc.{ClassDesc}
+use Rattle.pi_format.specs.Small.{small_program}
+use Rattle.pi_machine.specs.Start.{main_of}
+use Rattle.pi_machine.specs.Ends as ends
+use Rattle.pi_machine.specs.Ends.{End, Finish, Setting, EndsWith}
+use Rattle.pi_duty.specs.Words.{LazyWords, lazy_words}
+use Rattle.pi_duty.specs.Lines.{usage_line, missing_line, too_large_line, not_built_line, step_limit_line, heap_limit_line, frame_limit_line, uncaught_line, made_line}
+
+-- contents by name
+abbrev pub Contents : Type 0
+Contents = List ℕ → Option (List ℕ)
+
+-- what a command owes: its status, the bytes of its output, its lines on the error sink, and its writes to the store in
+-- order, each a name and a content
+pub record Owed : Type 0 where
+  pub status : Status
+  pub output : List ℕ
+  pub lines : List ℕ
+  pub writes : List (List ℕ × List ℕ)
+
+-- a refusal: a line and nothing else
+abbrev pub refused : Status → List ℕ → Owed
+refused status line = record { status = status; output = []; lines = line; writes = [] }
+
+-- the longest file that is read
+abbrev pub most_bytes : ℕ
+most_bytes = 16777216
+
+-- the limits of a lazy run: no class is held, and heap bytes and frame words are limited
+abbrev pub lazy_setting : ℕ → Setting
+lazy_setting steps = record { held = []; imaged = []; steps = steps; heap = 67108864; frames = 1048576 }
+
+-- the descriptor of a class
+abbrev pub descriptor_in : Program → Option ClassDesc → List ℕ
+descriptor_in p None = []
+descriptor_in p (Some d) = units_of p d.name.0
+
+abbrev pub descriptor_of : Program → ℕ → List ℕ
+descriptor_of p c = descriptor_in p (class_at p c)
+
+-- status and first lines by the end of a run. No small program throws, so how a message is printed is left to what comes.
+abbrev pub end_status : End → Status
+end_status ends.Returned = Done
+end_status (ends.Uncaught c message) = Uncaught
+end_status ends.StepLimit = Steps
+end_status ends.HeapLimit = Heap
+end_status ends.FrameLimit = Frames
+
+abbrev pub end_lines : Program → End → List ℕ
+end_lines p ends.Returned = []
+end_lines p (ends.Uncaught c message) = uncaught_line (descriptor_of p c)
+end_lines p ends.StepLimit = step_limit_line
+end_lines p ends.HeapLimit = heap_limit_line
+end_lines p ends.FrameLimit = frame_limit_line
+
+-- what a run owes that ended so
+abbrev pub ended : Program → Finish → Owed
+ended p f = record {
+    status = end_status f.end;
+    output = f.output;
+    lines = end_lines p f.end ++ made_line f.steps;
+    writes = []
+  }
+
+-- the run of a program for a main method owes what it ends with
+abbrev pub RunOwes : Program → ℕ → Option ℕ → Owed → Type 0
+RunOwes p steps None o = o ≡ refused NotBuilt not_built_line
+RunOwes p steps (Some main) o = (f : Finish) × (EndsWith p (lazy_setting steps) main [] f × (o ≡ ended p f))
+
+-- a file that is small for the main class is run, and another is not built
+abbrev pub FileOwes : LazyWords → Option Program → Owed → Type 0
+FileOwes l None o = o ≡ refused NotBuilt not_built_line
+FileOwes l (Some p) o = RunOwes p l.steps (main_of p l.main) o
+
+-- a file that is longer than the limit is refused
+abbrev pub LengthOwes : Bool → LazyWords → List ℕ → Owed → Type 0
+LengthOwes true l file o = o ≡ refused TooLarge (too_large_line l.file)
+LengthOwes false l file o = FileOwes l (small_program l.main file) o
+
+-- a lazy run by what the store holds under the file's name
+abbrev pub LazyOwes : LazyWords → Option (List ℕ) → Owed → Type 0
+LazyOwes l None o = o ≡ refused Missing (missing_line l.file)
+LazyOwes l (Some file) o = LengthOwes (nat_lt most_bytes (length file)) l file o
+
+abbrev pub CommandOwes : Option LazyWords → Contents → Owed → Type 0
+CommandOwes None contents o = o ≡ refused Usage usage_line
+CommandOwes (Some l) contents o = LazyOwes l (contents l.file) o
+
+-- what the command of these words owes over a store of these contents
+abbrev pub Owes : List (List ℕ) → Contents → Owed → Type 0
+Owes words contents o = CommandOwes (lazy_words words) contents o
+
+-- a command owes one thing at most
+abbrev pub OwesOnce : Type 0
+OwesOnce = (words : List (List ℕ)) (contents : Contents) (a b : Owed) → Owes words contents a → Owes words contents b → a ≡ b

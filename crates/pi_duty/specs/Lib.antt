@@ -1,0 +1,4 @@
+-- What commands owe.
+pub mod Words
+pub mod Lines
+pub mod Duty

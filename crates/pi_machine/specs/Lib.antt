@@ -1,0 +1,11 @@
+-- The machine.
+pub mod State
+pub mod Deeds
+pub mod Objects
+pub mod Natives
+pub mod Rows
+pub mod Initialisation
+pub mod Step
+pub mod Start
+pub mod Ends
+pub mod Laws

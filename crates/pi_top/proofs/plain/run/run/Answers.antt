@@ -1,0 +1,35 @@
+-- Where the loop ends the run ends as it does from there; a fault leaves a front of the output.
+use Rattle.std.proofs.Common.{◌≡◌, ◌≢◌, ℕ, ◌+◌, ◌<◌, Bool, true, false, List, [], ◌++◌, refl, arith, rules, sym, ap, subst, ◌∙◌}
+use Rattle.pi_base.specs.Outside.{grown, Begins}
+use Rattle.pi_machine.specs.Ends.{Finish, Returned, StepLimit}
+use Rattle.pi_top.specs.Plain.{Plain, plain_step, finished, is_over, Fits, PlainEnds}
+use Rattle.pi_top.specs.Seen.{view_of, plain_of}
+use Rattle.pi_top.proofs.PlainLaws.{SoFar, EndsAfter, ends_over, ends_limited, ends_back, ends_after, fits_on, over_not, so_far_on, front_of_end}
+use Rattle.pi_top.proofs.plain.run.run.Goals as goal
+
+pub returns-then-made-limit-clause-ends : goal.returns-then-made-limit-clause-ends
+returns-then-made-limit-clause-ends g c =
+    let goes : is_over c.steps.place.stage ≡ false = cc in
+    let end : PlainEnds (view_of c.args.small.now) c.args.limit (plain_of c.steps.place) c.steps.made c.steps.invariant.run.out (finished StepLimit c.steps.invariant.run.out c.steps.made) =
+      ends_limited _ _ _ _ _ goes c.if-made-limit.true in
+    (finished StepLimit c.steps.invariant.run.out c.steps.made, (c.steps.invariant.run.back _ end, (refl, refl, c.steps.invariant.run.printed)))
+
+pub returns-clause-ends : goal.returns-clause-ends
+returns-clause-ends g c =
+    let over : is_over c.steps.place.stage ≡ true = cc in
+    let end : PlainEnds (view_of c.args.small.now) c.args.limit (plain_of c.steps.place) c.steps.made c.steps.invariant.run.out (finished Returned c.steps.invariant.run.out c.steps.made) =
+      ends_over _ _ _ _ _ over in
+    (finished Returned c.steps.invariant.run.out c.steps.made, (c.steps.invariant.run.back _ end, (refl, refl, c.steps.invariant.run.printed)))
+
+pub steps-preserved : goal.steps-preserved
+steps-preserved g c =
+    let goes : is_over c.steps.place.stage ≡ false = cc in
+    record {
+      run = so_far_on _ _ _ _ _ _ _ _ _ c.steps.invariant.run goes c.if-made-limit.false c.in-Ok.ensures.state c.in-Ok.ensures.whole;
+      faults = c.in-Ok.ensures.faults ∙ c.steps.invariant.faults
+    }
+
+pub returns-in-Err-clause-ends : goal.returns-in-Err-clause-ends
+returns-in-Err-clause-ends g c =
+    let goes : is_over c.steps.place.stage ≡ false = cc in
+    front_of_end _ _ _ _ _ _ _ _ c.steps.invariant.run goes c.if-made-limit.false c.in-Err.ensures.front

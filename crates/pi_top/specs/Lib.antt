@@ -1,0 +1,6 @@
+pub mod Answer
+pub mod Places
+pub mod Plain
+pub mod Roles
+pub mod Row
+pub mod Seen

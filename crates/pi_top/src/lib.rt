@@ -1,0 +1,5 @@
+// The top call: the words of a command, what it reads, runs and writes, and how it answers. docs/commands.md states the
+// commands, and docs/machine.md the machine whose runs they make.
+#![tactic(auto)]
+
+pub mod plain;
