@@ -3,3 +3,4 @@ pub mod Lists
 pub mod Texts
 pub mod Lines
 pub mod Rows
+pub mod Chains

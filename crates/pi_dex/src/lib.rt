@@ -68,8 +68,8 @@ fn chain(
     let at = entry(file, CLASS_DEFS, 32, 0).unwrap();
     let NumberedTexts { new, numbers } = known;
     let class = class(alloc, file, numbers.as_slice(), at)?;
-    let main = text_of(alloc, main)?;
-    if !is_small(&first, new.as_slice(), &class, main.as_slice()) {
+    let wanted = text_of(alloc, main)?;
+    if !is_small(&first, new.as_slice(), &class, wanted.as_slice()) {
         return Err(SmallFault::NotSmall);
     }
     Ok(with_class(alloc, first, new, class)?)
@@ -84,7 +84,7 @@ fn is_small(first: &Prog, new: &[Units], class: &ClassDesc, main: &[u16]) -> boo
 }
 
 /// The chain of the first file and one more with these new names and this class.
-#[tactic(auto, using(crate::proofs::Places::core_names_are_few), unfolding(pi_format::specs::Small::class_fits, pi_format::specs::Small::small_chain))]
+#[tactic(auto, using(crate::proofs::Places::core_names_are_few))]
 fn with_class(
     alloc: Global,
     mut prog: Prog,

@@ -222,7 +222,6 @@ fn fits_parent(parent: Option<NameNo>) -> bool
 }
 
 /// Whether a class is no class of the first file, stands below Object, and has static ints and the two methods alone.
-#[tactic(auto, unfolding(pi_format::specs::Small::class_fits))]
 pub fn fits_class(class: &ClassDesc) -> bool
     ensures { result ≡ class_fits class.now }
 {
@@ -235,7 +234,6 @@ pub fn fits_class(class: &ClassDesc) -> bool
 }
 
 /// Whether a name of the program, or of the new ones behind them, has that text.
-#[tactic(auto, unfolding(pi_format::specs::Small::has_text))]
 pub fn is_called(prog: &Prog, new: &[Units], n: NameNo, text: &[u16]) -> bool
     ensures { result ≡ has_text (prog.now.names ++ new.now) n text.now }
 {
