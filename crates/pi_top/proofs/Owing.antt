@@ -14,12 +14,12 @@ use Rattle.pi_duty.specs.Lines.{usage_line, missing_line, read_fault_line, made_
 use Rattle.pi_duty.specs.Duty.{Contents, Owed, RunOwes, FileOwes, LengthOwes, LazyOwes, ended, end_status, end_lines, lazy_setting, most_bytes, refused}
 use Rattle.pi_top.specs.declared.plain.run.RunEnd.{RunEnd}
 use Rattle.pi_top.specs.declared.plain.run.RunEnd.TheVariants.{Returned, Limited, OutFault}
-use Rattle.pi_top.specs.declared.read_stub.SmallFault.{SmallFault}
-use Rattle.pi_top.specs.declared.read_stub.SmallFault.TheVariants.{OutOfMemory, NotSmall}
+use Rattle.pi_dex.specs.declared.fault.SmallFault.{SmallFault}
+use Rattle.pi_dex.specs.declared.fault.SmallFault.TheVariants.{OutOfMemory, NotSmall}
 use Rattle.pi_top.specs.declared.outcome.Outcome.{Outcome}
 use Rattle.pi_top.specs.declared.outcome.Outcome.TheVariants.{Usage, Missing, ReadFault, TooLarge, Memory, NotBuilt, Ran}
 use Rattle.pi_top.specs.Answer.{RunEnds, AnswersRun, OwesOver, Answered, is_owed}
-use Rattle.pi_top.specs.Says.{Says}
+use Rattle.pi_dex.specs.Says.{Says}
 use Rattle.pi_top.specs.Outcome.{Gives, EndGives, FileGives, OutcomeGives, status_of, lines_of}
 
 run_owes : (p : Program) (steps : ℕ) (main : Option ℕ) (method : ℕ) (f : Finish) → main ≡ Some method → EndsWith p (lazy_setting steps) method [] f → RunOwes p steps main (ended p f)
@@ -78,11 +78,11 @@ end_gives owes p (Limited n) f before now due a = record {
 }
 end_gives owes p OutFault f before now due a = record { owed = ended p f; due = due; begun = a }
 
-pub run_gives : (name main text same file : List ℕ) (steps : ℕ) (p : Program) (end : RunEnd) (before now : Option (List ℕ)) → text ≡ main → same ≡ main → length file ≤ most_bytes → small_program text file ≡ Some p → ((f : Finish) × (RunEnds p same steps f × AnswersRun end f before now)) → EndGives (LazyOwes (record { file = name; main = main; steps = steps }) (Some file)) end before now
-run_gives name main text same file steps p end before now is also short small ends =
+pub run_gives : (name main text file : List ℕ) (steps : ℕ) (p : Program) (end : RunEnd) (before now : Option (List ℕ)) → text ≡ main → length file ≤ most_bytes → small_program text file ≡ Some p → ((f : Finish) × (RunEnds p text steps f × AnswersRun end f before now)) → EndGives (LazyOwes (record { file = name; main = main; steps = steps }) (Some file)) end before now
+run_gives name main text file steps p end before now is short small ends =
     let l : LazyWords = record { file = name; main = main; steps = steps } in
     let small' : small_program main file ≡ Some p = subst (λ m. small_program m file ≡ Some p) is small in
-    let h : RunEnds p main steps ends.0 = subst (λ m. RunEnds p m steps ends.0) also ends.1.0 in
+    let h : RunEnds p main steps ends.0 = subst (λ m. RunEnds p m steps ends.0) is ends.1.0 in
     end_gives (LazyOwes l (Some file)) p end ends.0 before now (short_owes l file _ short (file_owes l (small_program main file) p ends.0 small' h)) ends.1.1
 
 grown_nil : (before : Option (List ℕ)) → before ≡ grown before []

@@ -4,5 +4,4 @@ pub mod Places
 pub mod Plain
 pub mod Roles
 pub mod Row
-pub mod Says
 pub mod Seen

@@ -10,10 +10,10 @@ ghost use Rattle.pi_top.specs.Outcome.{FileGives, OutcomeGives, status_of};
 use crate::command::{LazyCall, read_words};
 use crate::outcome::Outcome;
 use crate::plain::run::RunEnd;
-use crate::read_stub::{SmallFault, read_small};
-use crate::small_stub::run_small;
+use crate::plain::run_small;
 use pi_base::outside::{Sink, Store, StoreError};
 use pi_base::status::Status;
+use pi_dex::{SmallFault, read_small};
 use pi_format::small_shape;
 use std::alloc::Global;
 
@@ -125,5 +125,5 @@ fn run_file<O: Sink>(
 {
     let prog = read_small(alloc, main.as_bytes(), file)?;
     small_shape();
-    Ok(run_small(alloc, main.as_bytes(), &prog, steps, out)?)
+    Ok(run_small(alloc, &prog, steps, out)?)
 }

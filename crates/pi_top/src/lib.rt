@@ -3,12 +3,10 @@
 #![tactic(auto)]
 
 mod answer;
-pub mod command;
+mod command;
 mod lines;
 mod outcome;
-pub mod plain;
-mod read_stub;
-mod small_stub;
+mod plain;
 #[cfg(test)]
 mod tests;
 

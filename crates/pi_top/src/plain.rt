@@ -7,11 +7,11 @@ ghost use Rattle.pi_format.specs.Shape.{IsSmall};
 ghost use Rattle.pi_machine.specs.Ends.{Finish};
 ghost use Rattle.pi_top.specs.Answer.{AnswersRun, RunEnds, ends_in_out_fault};
 
-pub mod place;
-pub mod row;
+mod place;
+mod row;
 pub mod run;
-pub mod step;
-pub mod view;
+mod step;
+mod view;
 
 use crate::plain::run::{RunEnd, run};
 use crate::plain::view::{start, view};
