@@ -16,7 +16,7 @@ agree : (a b : ℕ) → a ≡ b → (a == b) ≡ true
 agree a b e = grind (arith, nat_tests)
 
 -- at the end nothing is left
-pub lines_end : (more : ℕ) (file : List ℕ) (numbers : List NameNo) (units begin at : ℕ) → at ≡ units
+lines_end : (more : ℕ) (file : List ℕ) (numbers : List NameNo) (units begin at : ℕ) → at ≡ units
     → lines_from more file numbers units begin at ≡ Some []
 lines_end zero file numbers units begin at e = ap (λ (b : Bool). if b then Some [] else None) (agree at units e)
 lines_end (suc more) file numbers units begin at e =
@@ -27,13 +27,6 @@ lines_end (suc more) file numbers units begin at e =
 pub lines_done : (done : List Line) (more : ℕ) (file : List ℕ) (numbers : List NameNo) (units begin at : ℕ) → at ≡ units
     → behind done (lines_from more file numbers units begin at) ≡ Some done
 lines_done done more file numbers units begin at e = ap (behind done) (lines_end more file numbers units begin at e) ∙ ap Some (append-nil done)
-
--- after the last unit that may begin an instruction, without an end
-pub lines_over : (done : List Line) (more : ℕ) (file : List ℕ) (numbers : List NameNo) (units begin at : ℕ) → more ≡ 0 → at ≢ units
-    → behind done (lines_from more file numbers units begin at) ≡ None
-lines_over done more file numbers units begin at z ne =
-    ap (λ k. behind done (lines_from k file numbers units begin at)) z
-    ∙ ap (λ (b : Bool). behind done (if b then Some [] else None)) (differ at units ne)
 
 -- one instruction and what follows it
 lines_step : (n more : ℕ) (file : List ℕ) (numbers : List NameNo) (units begin at : ℕ) (o : Option Decoded)

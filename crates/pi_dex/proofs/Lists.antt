@@ -1,5 +1,5 @@
 -- Lists that are read one element after another: what is read so far, put before what reading the rest gives.
-use Rattle.std.proofs.Common.{◌≡◌, ℕ, suc, ◌+◌, ◌-◌, ◌<◌, ◌≤◌, List, [], ◌∷◌, ◌++◌, Option, Some, None, refl, ap, sym, ◌∙◌, append_assoc, append-nil, arith, subst}
+use Rattle.std.proofs.Common.{◌≡◌, ℕ, suc, ◌+◌, ◌-◌, ◌<◌, List, [], ◌∷◌, ◌++◌, Option, Some, None, refl, ap, sym, ◌∙◌, append_assoc, arith, subst}
 use Rattle.std.specs.Prelude.{Result, Ok, Err}
 use Rattle.std.specs.Result.{IsErrAnd}
 use Rattle.pi_format.specs.Bytes.{entries, ◌>>=◌}
@@ -16,11 +16,6 @@ pub behind_more : {A : Type 0} (done : List A) (x : A) (others : Option (List A)
     → behind done (others >>= (λ ys. Some (x ∷ ys))) ≡ behind (done ++ x ∷ []) others
 behind_more done x None = refl
 behind_more done x (Some ys) = ap Some (sym (append_assoc done (x ∷ []) ys))
-
--- with nothing read before, it is what reading gives
-pub behind_none : {A : Type 0} (all : Option (List A)) → behind [] all ≡ all
-behind_none None = refl
-behind_none (Some ys) = refl
 
 entries_is : {A : Type 0} (f : ℕ → Option A) (i n m : ℕ) → n ≡ suc m → entries f i n ≡ (f i >>= (λ x. entries f (i + 1) m >>= (λ ys. Some (x ∷ ys))))
 entries_is f i n m e = ap (entries f i) e
@@ -39,14 +34,8 @@ entries_stop f done i n lt e =
     ap (behind done) (entries_is f i (n - i) (n - (i + 1)) (omega arith)
     ∙ ap (λ o. o >>= (λ y. entries f (i + 1) (n - (i + 1)) >>= (λ ys. Some (y ∷ ys)))) e)
 
-pub entries_done : {A : Type 0} (f : ℕ → Option A) (done : List A) (i n : ℕ)
-    → n ≤ i → behind done (entries f i (n - i)) ≡ Some done
-entries_done f done i n le =
-    let e : n - i ≡ 0 = omega arith in
-    ap (λ k. behind done (entries f i k)) e ∙ ap Some (append-nil done)
-
 -- what has no answer since a part of it has none
-pub says_err : {A B : Type 0} (part : Option A) (whole : Option B) (fault : SmallFault)
+says_err : {A B : Type 0} (part : Option A) (whole : Option B) (fault : SmallFault)
     → (part ≡ None → whole ≡ None) → Says part (Err fault) → Says whole (Err fault)
 says_err part whole NotSmall stops none = stops none
 says_err part whole OutOfMemory stops none = none

@@ -1,5 +1,5 @@
 -- The fields and the methods of the class data, read one after another.
-use Rattle.std.proofs.Common.{◌≡◌, ℕ, suc, List, [], ◌∷◌, ◌++◌, Option, Some, None, refl, ap, sym, ◌∙◌, append_assoc, append-nil}
+use Rattle.std.proofs.Common.{◌≡◌, ℕ, suc, List, [], ◌∷◌, ◌++◌, Option, Some, None, refl, ap, sym, ◌∙◌, append_assoc}
 use Rattle.pi_model.specs.declared.numbers.NameNo.{NameNo}
 use Rattle.pi_model.specs.declared.describe.FieldDesc.{FieldDesc}
 use Rattle.pi_model.specs.declared.describe.MethodDesc.{MethodDesc}
@@ -19,12 +19,6 @@ behind_read_more : {A : Type 0} (done : List A) (x : A) (rest : Option (Read (Li
     → behind_read done (before_others x rest) ≡ behind_read (done ++ x ∷ []) rest
 behind_read_more done x None = refl
 behind_read_more done x (Some others) = ap (λ all. Some (read_to all others.next)) (sym (append_assoc done (x ∷ []) others.value))
-
-pub fields_done : (done : List FieldDesc) (n : ℕ) (file : List ℕ) (numbers : List NameNo) (class : NameNo) (before at : ℕ) → n ≡ 0
-    → behind_read done (field_rows n file numbers class before at) ≡ Some (read_to done at)
-fields_done done n file numbers class before at z =
-    ap (λ k. behind_read done (field_rows k file numbers class before at)) z
-    ∙ ap (λ all. Some (read_to all at)) (append-nil done)
 
 fields_step : (n more : ℕ) (file : List ℕ) (numbers : List NameNo) (class : NameNo) (before at : ℕ) (o : Option (Read Field))
     → n ≡ suc more → field_row file numbers class before at ≡ o
@@ -47,12 +41,6 @@ pub fields_stop : (done : List FieldDesc) (n more : ℕ) (file : List ℕ) (numb
     → behind_read done (field_rows n file numbers class before at) ≡ None
 fields_stop done n more file numbers class before at e is =
     ap (behind_read done) (fields_step n more file numbers class before at None e is)
-
-pub methods_done : (done : List MethodDesc) (n : ℕ) (file : List ℕ) (numbers : List NameNo) (class : NameNo) (before at : ℕ) → n ≡ 0
-    → behind_read done (method_rows n file numbers class before at) ≡ Some (read_to done at)
-methods_done done n file numbers class before at z =
-    ap (λ k. behind_read done (method_rows k file numbers class before at)) z
-    ∙ ap (λ all. Some (read_to all at)) (append-nil done)
 
 methods_step : (n more : ℕ) (file : List ℕ) (numbers : List NameNo) (class : NameNo) (before at : ℕ) (o : Option (Read Method))
     → n ≡ suc more → method_row file numbers class before at ≡ o

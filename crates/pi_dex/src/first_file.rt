@@ -11,7 +11,7 @@ use pi_model::prog::Prog;
 use pi_model::texts::text_of;
 use std::alloc::{AllocError, Global};
 
-/// The names of that file, each with its number.
+// The names of that file, each with its number.
 pub const OBJECT: NameNo = NameNo(0);
 
 pub const OUT: NameNo = NameNo(1);

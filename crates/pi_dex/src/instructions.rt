@@ -38,7 +38,7 @@ fn signed_nibble(n: u32) -> u32
     if n < 8 { n } else { n + 0xffff_fff0 }
 }
 
-/// The opcodes that are read.
+// The opcodes that are read.
 const RETURN_VOID: u16 = 0x0e;
 
 const CONST_4: u16 = 0x12;

@@ -14,7 +14,7 @@ use pi_model::listed::{Texts, Units};
 use pi_model::texts::text_of;
 use std::alloc::Global;
 
-/// The places of the header's fields: a table's size stands there, its offset four bytes later.
+// The places of the header's fields: a table's size stands there, its offset four bytes later.
 pub const STRING_IDS: usize = 56;
 
 pub const TYPE_IDS: usize = 64;
