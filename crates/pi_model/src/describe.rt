@@ -1,6 +1,9 @@
 // What a program says of a class, its fields, its methods and their code: plain data that clauses match on.
 
-use crate::insn::Insn;
+ghost use Rattle.std.specs.Prelude.{◌≡◌, ◌<◌, ◌&&◌, length, position, IfSome};
+ghost use Rattle.pi_model.specs.Program.{same_name};
+
+use crate::insn::{FieldRef, Insn};
 use crate::listed::{Listed, Names};
 use crate::numbers::{FileNo, NameNo};
 
@@ -16,6 +19,19 @@ pub struct ClassDesc {
     pub methods: Methods,
 }
 
+impl ClassDesc {
+    ghost use Rattle.std.specs.Prelude.{◌≡◌, ◌<◌, length, IfSome};
+    ghost use Rattle.pi_model.specs.Search.{own_field};
+
+    /// The place of a field of that name and type in the class's own list; its class is not looked at.
+    pub fn own_field(&self, field: &FieldRef) -> Option<usize>
+        ensures place { result ≡ own_field self.now field.now }
+        ensures within { IfSome result (λ place. place < length self.now.fields) }
+    {
+        field_place(self.fields.as_slice(), field)
+    }
+}
+
 /// A field, static or not as its flags say.
 #[derive(Debug, Drop)]
 pub struct FieldDesc {
@@ -23,6 +39,15 @@ pub struct FieldDesc {
     pub ty: NameNo,
     pub flags: u32,
     pub init: Init,
+}
+
+fn field_place(fields: &[FieldDesc], field: &FieldRef) -> Option<usize>
+    ensures place { result ≡ position (λ x. same_name x.name field.now.name && same_name x.ty field.now.ty) fields.now }
+    ensures within { IfSome result (λ place. place < length fields.now) }
+{
+    fields
+        .iter()
+        .position(|own| own.name.0 == field.name.0 && own.ty.0 == field.ty.0)
 }
 
 /// What a static field is set to when its class is initialised. `Zero` leaves the field as it is.
