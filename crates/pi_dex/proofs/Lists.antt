@@ -34,16 +34,16 @@ entries_stop f done i n lt e =
     ap (behind done) (entries_is f i (n - i) (n - (i + 1)) (omega arith)
     ∙ ap (λ o. o >>= (λ y. entries f (i + 1) (n - (i + 1)) >>= (λ ys. Some (y ∷ ys)))) e)
 
--- what has no answer since a part of it has none
-says_err : {A B : Type 0} (part : Option A) (whole : Option B) (fault : SmallFault)
-    → (part ≡ None → whole ≡ None) → Says part (Err fault) → Says whole (Err fault)
-says_err part whole NotSmall stops none = stops none
-says_err part whole OutOfMemory stops none = none
+-- what has no answer since a inner of it has none
+says_err : {A B : Type 0} (inner : Option A) (whole : Option B) (fault : SmallFault)
+    → (inner ≡ None → whole ≡ None) → Says inner (Err fault) → Says whole (Err fault)
+says_err inner whole NotSmall stops none = stops none
+says_err inner whole OutOfMemory stops none = none
 
 -- the error that a `?` passes on says the same
-pub says_passed : {A B : Type 0} (part : Option A) (whole : Option B) (fault : SmallFault) (answer : Result B SmallFault)
-    → IsErrAnd answer (λ e. e ≡ fault) → (part ≡ None → whole ≡ None) → Says part (Err fault) → Says whole answer
-says_passed part whole fault (Ok _) is stops none = elim is [ ]
-says_passed part whole fault (Err e) is stops none =
+pub says_passed : {A B : Type 0} (inner : Option A) (whole : Option B) (fault : SmallFault) (answer : Result B SmallFault)
+    → IsErrAnd answer (λ e. e ≡ fault) → (inner ≡ None → whole ≡ None) → Says inner (Err fault) → Says whole answer
+says_passed inner whole fault (Ok _) is stops none = elim is [ ]
+says_passed inner whole fault (Err e) is stops none =
     let P : SmallFault → Type 0 = λ f. Says whole (Err f) in
-    subst P (sym is) (says_err part whole fault stops none)
+    subst P (sym is) (says_err inner whole fault stops none)

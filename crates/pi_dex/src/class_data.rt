@@ -238,7 +238,7 @@ fn members(
     let (instances, at) = uleb(file, at).ok_or(SmallFault::NotSmall)?;
     let (directs, at) = uleb(file, at).ok_or(SmallFault::NotSmall)?;
     let (virtuals, at) = uleb(file, at).ok_or(SmallFault::NotSmall)?;
-    if instances != 0 || virtuals != 0 {
+    if instances != 0 || virtuals != 0 || directs > 2 {
         return Err(SmallFault::NotSmall);
     }
     let list = all_fields(alloc, file, numbers, class, statics, at)?;

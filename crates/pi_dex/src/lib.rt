@@ -22,7 +22,7 @@ mod tables;
 use bytes::word;
 use class_data::class;
 pub use fault::SmallFault;
-pub use first_file::core;
+pub use first_file::{CLINIT, MAIN, core};
 use names::{NumberedTexts, number};
 use pi_model::describe::{ClassDesc, Classes};
 use pi_model::listed::{Names, Texts, Units};

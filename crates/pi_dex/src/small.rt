@@ -1,7 +1,7 @@
 // The tests of a class that make its file small for a main class. docs/dex-format.md states them; each function is one
 // definition of the format's.
 
-ghost use Rattle.std.specs.Prelude.{◌≡◌, ◌++◌, ◌&&◌, position};
+ghost use Rattle.std.specs.Prelude.{◌≡◌, ◌++◌};
 ghost use Rattle.std.specs.List.{list_all, list_any};
 ghost use Rattle.pi_model.specs.Program.{same_name};
 ghost use Rattle.pi_model.specs.Search.{same_names};
@@ -97,20 +97,11 @@ fn is_one_below(words: u16, regs: &[u16]) -> bool
     }
 }
 
-/// The place of the first field of a name and type.
-fn place_of(fields: &[FieldDesc], f: FieldRef) -> Option<usize>
-    ensures { result ≡ position (λ x. same_name x.name f.name && same_name x.ty f.ty) fields.now }
-{
-    fields
-        .iter()
-        .position(|x| is_same(x.name, f.name) && is_same(x.ty, f.ty))
-}
-
 /// Whether an instruction's field is one that the class lists.
 fn is_own(class: &ClassDesc, f: FieldRef) -> bool
     ensures { result ≡ names_own class.now f }
 {
-    is_same(f.class, class.name) && place_of(class.fields.as_slice(), f).is_some()
+    is_same(f.class, class.name) && class.own_field(&f).is_some()
 }
 
 /// Whether an instruction stands in a small file and works on that many registers.

@@ -1,5 +1,5 @@
 -- The one class of a small file, with its fields and methods.
-use Rattle.std.specs.Prelude.{ℕ, zero, suc, ◌+◌, ◌==◌, ◌&&◌, List, [], ◌∷◌, Option, Some, None, if◌then◌else◌}
+use Rattle.std.specs.Prelude.{ℕ, zero, suc, ◌+◌, ◌==◌, ◌&&◌, nat_le, List, [], ◌∷◌, Option, Some, None, if◌then◌else◌}
 use Rattle.pi_model.specs.declared.numbers.NameNo.{NameNo}
 use Rattle.pi_model.specs.declared.describe.ClassDesc.{ClassDesc}
 use Rattle.pi_model.specs.declared.describe.FieldDesc.{FieldDesc}
@@ -69,14 +69,14 @@ pub record Members : Type 0 where
   pub fields : List FieldDesc
   pub methods : List MethodDesc
 
--- the class data at an offset: static fields and direct methods alone
+-- the class data at an offset: static fields and at most two direct methods alone
 unfoldable pub members_at : List ℕ → List NameNo → NameNo → ℕ → Option Members
 members_at file numbers class at = do
   statics ← uleb_at file at
   instances ← uleb_at file statics.1
   directs ← uleb_at file instances.1
   virtuals ← uleb_at file directs.1
-  if (instances.0 == 0) && (virtuals.0 == 0) then (do
+  if (instances.0 == 0) && (virtuals.0 == 0) && nat_le directs.0 2 then (do
     fields ← field_rows statics.0 file numbers class 0 virtuals.1
     methods ← method_rows directs.0 file numbers class 0 fields.next
     Some (record { fields = fields.value; methods = methods.value }))
