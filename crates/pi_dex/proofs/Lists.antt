@@ -34,7 +34,7 @@ entries_stop f done i n lt e =
     ap (behind done) (entries_is f i (n - i) (n - (i + 1)) (omega arith)
     ∙ ap (λ o. o >>= (λ y. entries f (i + 1) (n - (i + 1)) >>= (λ ys. Some (y ∷ ys)))) e)
 
--- what has no answer since a inner of it has none
+-- what has no answer since an inner answer of it has none
 says_err : {A B : Type 0} (inner : Option A) (whole : Option B) (fault : SmallFault)
     → (inner ≡ None → whole ≡ None) → Says inner (Err fault) → Says whole (Err fault)
 says_err inner whole NotSmall stops none = stops none
