@@ -78,7 +78,7 @@ module _ (new : List (List ℕ)) (d : ClassDesc) (is : ClassIs d) (things : List
 
     abbrev pub Does : Insn → Type 0
     Does i = DoesTo (small_chain new d) now
-        (by_need now (needed_by (small_chain new d) i) (row (small_chain new d) now (frame method at words extra) units i))
+        (let p : Program = small_chain new d in by_need now (needed_by p i) (row p now (frame method at words extra) units i))
         (after (effect_of d i words statics))
 
     in_frame : (a : ℕ) → nat_lt a (length words) ≡ true → nat_lt a (length (words_of words ++ extra)) ≡ true

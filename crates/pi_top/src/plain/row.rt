@@ -1,27 +1,17 @@
 // The instructions of a small file, a row each.
 
-ghost use Rattle.std.specs.Prelude.{◌≡◌, ◌++◌, ◌∷◌, [], ◌≤◌, ◌<◌, ◌+◌, ◌&&◌, length, take, drop, position, IfOk, OnOk, OnErr, IsTrue, is_err, IsSome, IfSome, slice_set, slice_index};
+ghost use Rattle.std.specs.Prelude.{◌≡◌, ◌≤◌, ◌<◌, ◌+◌, length, take, IfOk, OnOk, OnErr, IsTrue, is_err, IsSome};
 ghost use Rattle.pi_base.specs.Outside.{Begins, Counts, grown};
 ghost use Rattle.pi_format.specs.Small.{insn_fits};
 ghost use Rattle.pi_machine.specs.Natives.{printed_int};
-ghost use Rattle.pi_model.specs.Program.{same_name};
 ghost use Rattle.pi_model.specs.Search.{own_field};
 ghost use Rattle.pi_top.specs.Row.{effect_of, place_of};
 
 use itoa::Buffer;
 use pi_base::outside::{Sink, SinkError};
 use pi_base::put::put_all;
-use pi_model::describe::{ClassDesc, FieldDesc};
+use pi_model::describe::ClassDesc;
 use pi_model::insn::{FieldRef, Insn};
-
-/// The place of a field among those of a class.
-fn place_among(fields: &[FieldDesc], field: &FieldRef) -> Option<usize>
-    ensures { result ≡ position (λ x. same_name x.name field.now.name && same_name x.ty field.now.ty) fields.now }
-{
-    fields
-        .iter()
-        .position(|own| own.name.0 == field.name.0 && own.ty.0 == field.ty.0)
-}
 
 /// The place of a field of the class.
 fn place_in(class: &ClassDesc, field: &FieldRef) -> usize
@@ -29,8 +19,7 @@ fn place_in(class: &ClassDesc, field: &FieldRef) -> usize
     ensures place { result ≡ place_of class.now field.now }
     ensures within { result < length class.now.fields }
 {
-    let fields = class.fields.as_slice();
-    match place_among(fields, field) {
+    match class.own_field(field) {
         Some(place) => place,
         None => unreachable!(),
     }

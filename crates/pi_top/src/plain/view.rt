@@ -8,6 +8,7 @@ ghost use Rattle.pi_top.specs.Roles.{method_named, HasMain, SeesClass};
 ghost use Rattle.pi_top.specs.Seen.{view_of, plain_of};
 
 use crate::plain::place::{Frame, Place, Small, Stage};
+use pi_dex::{CLINIT, MAIN};
 use pi_model::describe::{Code, MethodDesc};
 use pi_model::numbers::{ClassNo, NameNo};
 use pi_model::prog::Prog;
@@ -15,11 +16,6 @@ use std::alloc::{AllocError, Global};
 
 /// The class of a small file stands behind the two of the first file.
 const CLASS: ClassNo = ClassNo(2);
-
-/// The numbers of the names `main` and `<clinit>` in the first file.
-const MAIN: NameNo = NameNo(6);
-
-const CLINIT: NameNo = NameNo(7);
 
 /// The first method of a name.
 fn method_of(methods: &[MethodDesc], name: NameNo) -> Option<&MethodDesc>
