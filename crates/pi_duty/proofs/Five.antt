@@ -1,6 +1,6 @@
 -- The worked file from its bytes to what a lazy run of it owes: 5 and a newline, and the line on 11 steps.
-use Rattle.std.proofs.Common.{◌≡◌, ℕ, List, [], ◌∷◌, Option, Some, None, Bool, refl, if◌then◌else◌}
-use Rattle.std.specs.Prelude.{codes, nat_eq}
+use Rattle.std.proofs.Common.{ℕ, List, [], ◌∷◌, Some, None, refl, if◌then◌else◌}
+use Rattle.std.specs.Prelude.{codes}
 use Rattle.std.specs.Fmt.{digits}
 use Rattle.pi_base.specs.declared.status.Status.TheVariants.{Done, Steps}
 use Rattle.pi_format.specs.Core.{core_names}
@@ -15,7 +15,7 @@ use Rattle.pi_machine.specs.Initialisation.{is_clinit}
 use Rattle.pi_machine.specs.Start.{start_names, is_main}
 use Rattle.pi_machine.specs.Ends.{Returned, StepLimit}
 use Rattle.pi_duty.specs.Words.{same_word}
-use Rattle.pi_duty.specs.Duty.{Contents, Owed, Owes}
+use Rattle.pi_duty.specs.Duty.{Contents, Owes}
 
 five_bytes : List ℕ
 five_bytes =

@@ -4,10 +4,9 @@ use Rattle.std.specs.Prelude.{nat_lt, length}
 use Rattle.pi_model.specs.Program.{Program}
 use Rattle.pi_format.specs.Small.{small_program}
 use Rattle.pi_machine.specs.Start.{main_of}
-use Rattle.pi_machine.specs.Ends.{Finish}
 use Rattle.pi_machine.proofs.RunLaws.{run_end_unique}
 use Rattle.pi_duty.specs.Words.{LazyWords, lazy_words}
-use Rattle.pi_duty.specs.Duty.{Contents, Owed, RunOwes, FileOwes, LengthOwes, LazyOwes, CommandOwes, Owes, OwesOnce, ended, lazy_setting, most_bytes}
+use Rattle.pi_duty.specs.Duty.{Contents, Owed, RunOwes, FileOwes, LengthOwes, LazyOwes, CommandOwes, OwesOnce, ended, lazy_setting, most_bytes}
 
 run_once : (p : Program) (steps : ℕ) (main : Option ℕ) (a b : Owed) → RunOwes p steps main a → RunOwes p steps main b → a ≡ b
 run_once p steps None a b x y = x ∙ sym y

@@ -5,8 +5,8 @@ use Rattle.pi_machine.specs.State.{State}
 use Rattle.pi_machine.specs.Deeds.{Deed, Make, Touch, Saw, Reads, Writes, SetStatic, SetStatus, SetField, SetItem, CallNative, Print, Start, Push, Pop, SetReg, Jump, GoOn, SetPhase, Pend, Unpend, Hold, do_deed, do_all}
 use Rattle.pi_machine.specs.Rows.{Deeds}
 use Rattle.pi_machine.specs.Step.{deeds_of}
-use Rattle.std.specs.Prelude.{if◌then◌else◌, nat_lt, ◌==◌, ◌+◌}
-use Rattle.pi_machine.specs.Ends.{End, HeapLimit, FrameLimit, StepLimit, Finish, Setting, Tally, Moment, Next, Ends, Goes, Sticks, next, next_by, next_step, counted_step, outside_step, end_of, goes_on, moves_on, run_by, moment_after, EndsFrom, EndsWith, BeginsAndEnds, with_deeds, is_inside, frame_words}
+use Rattle.std.specs.Prelude.{if◌then◌else◌, nat_lt, ◌==◌}
+use Rattle.pi_machine.specs.Ends.{End, HeapLimit, FrameLimit, StepLimit, Finish, Setting, Tally, Moment, Next, Ends, Goes, Sticks, next, next_by, next_step, end_of, goes_on, moves_on, run_by, moment_after, EndsFrom, BeginsAndEnds, with_deeds, is_inside, frame_words}
 use Rattle.pi_machine.specs.Laws.{EndIsUnique, RunEndIsUnique, OutputGrows, EndStays}
 
 -- the output of one state is a front of another's

@@ -1,5 +1,5 @@
 -- The laws of the machine, as statements.
-use Rattle.std.specs.Prelude.{◌≡◌, ℕ, List, ◌++◌, Option, Some}
+use Rattle.std.specs.Prelude.{◌≡◌, ℕ, List, ◌++◌, Some}
 use Rattle.pi_model.specs.Program.{Program}
 use Rattle.pi_machine.specs.State.{State}
 use Rattle.pi_machine.specs.Ends.{Setting, Tally, Finish, Moment, moment_after, EndsFrom, EndsWith}

@@ -1,18 +1,17 @@
 -- What the machine finds in the program of a small file: its class, the fields that its codes name, the native that
 -- they call, and the codes by the numbers of their methods.
-use Rattle.std.proofs.Common.{◌≡◌, ◌≢◌, ℕ, zero, suc, ◌+◌, ◌-◌, ◌<◌, ◌≤◌, Bool, true, false, List, [], ◌∷◌, ◌++◌, length, Option, Some, None, refl, arith, rules, sym, ◌∙◌, ap, subst, zero-add}
+use Rattle.std.proofs.Common.{◌≡◌, ℕ, ◌<◌, Bool, true, false, List, [], ◌∷◌, length, Option, Some, None, refl, arith, sym, ◌∙◌, ap, zero-add}
 use Rattle.std.proofs.lemmas.Bool.Decides.{nat_tests}
 use Rattle.std.proofs.lemmas.Option.{slice_get_within}
-use Rattle.std.specs.Prelude.{nat_lt, nat_le, slice_get, cond, if◌then◌else◌, ◌&&◌, ◌==◌, not, find, position, codes, is_some, unwrap_or, option_and_then, IsSomeAnd}
-use Rattle.std.specs.List.{list_all, list_any, position_or_len}
+use Rattle.std.specs.Prelude.{nat_lt, slice_get, cond, ◌&&◌, ◌==◌, not, is_some, unwrap_or, option_and_then}
+use Rattle.std.specs.List.{list_all, position_or_len}
 use Rattle.pi_model.specs.declared.numbers.NameNo.{NameNo}
 use Rattle.pi_model.specs.declared.describe.ClassDesc.{ClassDesc}
 use Rattle.pi_model.specs.declared.describe.MethodDesc.{MethodDesc}
 use Rattle.pi_model.specs.declared.describe.FieldDesc.{FieldDesc}
-use Rattle.pi_model.specs.declared.describe.Code.{Code}
 use Rattle.pi_model.specs.declared.insn.FieldRef.{FieldRef}
 use Rattle.pi_model.specs.declared.insn.MethodRef.{MethodRef}
-use Rattle.pi_model.specs.Program.{Program, same_name, method_count, method_number}
+use Rattle.pi_model.specs.Program.{same_name, method_count, method_number}
 use Rattle.pi_model.specs.Search.{same_names, field_from, in_class, class_of, own_field, find_field, find_method, field_no_of, method_of, method_at}
 use Rattle.pi_model.proofs.Members.{member_back}
 use Rattle.pi_format.specs.Core.{core_names, object_name, out_name, print_name, int_name, void_name}

@@ -1,28 +1,28 @@
 -- The rows of the machine at the instructions of a small file: their deeds, and what doing them makes of a state whose
 -- registers and statics are words.
-use Rattle.std.proofs.Common.{◌≡◌, ◌≢◌, ◌⊎◌, inl, inr, ℕ, zero, suc, ◌+◌, ◌-◌, ◌<◌, ◌≤◌, Bool, true, false, List, [], ◌∷◌, ◌++◌, length, map, Option, Some, None, refl, arith, rules, sym, ◌∙◌, ap, subst, add_assoc}
+use Rattle.std.proofs.Common.{◌≡◌, ◌⊎◌, inl, inr, ℕ, ◌+◌, ◌<◌, Bool, true, false, List, [], ◌∷◌, ◌++◌, length, Some, None, refl, arith}
 use Rattle.std.proofs.lemmas.List.{append-nil, length-append}
-use Rattle.std.specs.Prelude.{nat_lt, slice_get, slice_set, slice_index, ◌&&◌, unwrap_or, option_map, option_and_then, IsSomeAnd}
+use Rattle.std.specs.Prelude.{nat_lt, slice_index}
 use Rattle.pi_model.specs.declared.describe.ClassDesc.{ClassDesc}
 use Rattle.pi_model.specs.declared.reason.ClassState.{ClassState}
 use Rattle.pi_model.specs.declared.reason.ClassState.TheVariants.{InProgress, Done}
 use Rattle.pi_model.specs.declared.insn.Insn.{Insn}
-use Rattle.pi_model.specs.declared.insn.Insn.TheVariants.{Nop, Move, MoveResult, MoveException, ReturnVoid, Return, Const, ConstWide, ConstString, ConstClass, Monitor, CheckCast, InstanceOf, ArrayLength, NewInstance, NewArray, Filled, FillArray, Throw, Goto, Switch, CmpLong, If, IfZ, Aget, Aput, Iget, Iput, Sget, Sput, Invoke, Unary, Binary, BinaryLit}
+use Rattle.pi_model.specs.declared.insn.Insn.TheVariants.{ReturnVoid, Const, Sget, Sput, Invoke}
 use Rattle.pi_model.specs.declared.insn.Access.TheVariants as access
 use Rattle.pi_model.specs.declared.insn.How.TheVariants as how
 use Rattle.pi_model.specs.declared.insn.FieldRef.{FieldRef}
 use Rattle.pi_model.specs.declared.insn.MethodRef.{MethodRef}
 use Rattle.pi_model.specs.Program.{Program}
-use Rattle.pi_model.specs.Search.{in_class, find_field, find_method, field_no_of, method_no_of, own_field}
-use Rattle.pi_model.specs.Values.{Value, Word, Ref, Num}
+use Rattle.pi_model.specs.Search.{in_class, find_field, field_no_of}
+use Rattle.pi_model.specs.Values.{Value, Word, Num}
 use Rattle.pi_format.specs.Small.{insn_fits, names_own, is_print, one_below, small_chain}
-use Rattle.pi_machine.specs.State.{State, Thing, Frame, Phase, Entry, Call, Record, Held, Nothing}
+use Rattle.pi_machine.specs.State.{State, Thing, Frame, Entry, Call, Nothing}
 use Rattle.pi_machine.specs.Deeds.{Deed, Saw, OfStatus, OfStatic, SetStatic, CallNative, Print, Pop, SetReg, Jump, GoOn, Hold, do_all, on_frame, past_call}
 use Rattle.pi_machine.specs.Natives.{printed_int}
-use Rattle.pi_machine.specs.Rows.{Deeds, first_do, row, native_at, registers_of}
+use Rattle.pi_machine.specs.Rows.{Deeds, first_do, row}
 use Rattle.pi_machine.specs.Initialisation.{needed_by, by_need, by_status}
 use Rattle.pi_machine.specs.Ends.{Tally, with_deeds}
-use Rattle.pi_top.specs.Row.{Effect, effect_of, place_of, only}
+use Rattle.pi_top.specs.Row.{Effect, effect_of, place_of}
 use Rattle.pi_top.proofs.Lists.{both}
 use Rattle.pi_top.proofs.Lookups.{ClassIs, finds_field, place_within, finds_print, print_native, field_number_is}
 use Rattle.pi_top.proofs.Words.{words_of, get_word, set_word, get_only, set_only, length_words, holds_lt, lt_of}

@@ -1,17 +1,15 @@
 -- A plain run ends as the machine does.
-use Rattle.std.proofs.Common.{◌≡◌, ◌≢◌, ◌⊎◌, inl, inr, ℕ, zero, suc, ◌+◌, ◌-◌, ◌<◌, ◌≤◌, Bool, true, false, List, [], ◌∷◌, ◌++◌, length, Option, Some, None, refl, arith, rules, sym, ◌∙◌, ap, subst}
+use Rattle.std.proofs.Common.{◌≡◌, ◌≢◌, ℕ, zero, suc, ◌+◌, Bool, true, false, List, ◌++◌, Some, None, refl, arith, ◌∙◌, ap}
 use Rattle.std.proofs.lemmas.Bool.Decides.{nat_tests}
-use Rattle.std.specs.Prelude.{nat_lt, ◌==◌, if◌then◌else◌}
-use Rattle.pi_model.specs.Program.{Program}
+use Rattle.std.specs.Prelude.{◌==◌, if◌then◌else◌}
 use Rattle.pi_format.specs.Small.{small_chain}
-use Rattle.pi_machine.specs.State.{State, Thing, Entry}
-use Rattle.pi_machine.specs.Ends.{Setting, Tally, Finish, End, Returned, StepLimit, Next, Ends, Goes, next, next_by, goes_on, end_of, end_by, run_by, EndsFrom}
+use Rattle.pi_machine.specs.State.{Thing}
+use Rattle.pi_machine.specs.Ends.{Finish, End, Returned, StepLimit, Ends, next, next_by, goes_on, end_of, end_by, run_by, EndsFrom}
 use Rattle.pi_duty.specs.Duty.{lazy_setting}
 use Rattle.pi_top.specs.declared.plain.place.Stage.{Stage}
 use Rattle.pi_top.specs.declared.plain.place.Stage.TheVariants as stage
-use Rattle.pi_top.specs.Plain.{View, Plain, plain_move, plain_step, is_over, finished, plain_by, PlainEnds, Fits}
+use Rattle.pi_top.specs.Plain.{View, Plain, plain_step, is_over, finished, plain_by, Fits}
 use Rattle.pi_top.proofs.PlainLaws.{fits_on}
-use Rattle.pi_top.proofs.Lists.{some_same}
 use Rattle.pi_top.proofs.MachineSteps.{Found, Begun, begun_on, clinit_no_end, state_at, state_for, counted, StepIs, step_is}
 
 differ : (a b : ℕ) → (a == b) ≡ false → a ≢ b

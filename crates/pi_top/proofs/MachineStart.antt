@@ -1,27 +1,22 @@
 -- The start of a lazy run of a small file, and what the machine finds in its program.
-use Rattle.std.proofs.Common.{◌≡◌, ◌≢◌, ◌⊎◌, inl, inr, ℕ, zero, suc, ◌+◌, ◌-◌, ◌*◌, ◌/◌, ◌<◌, ◌≤◌, Bool, true, false, List, [], ◌∷◌, ◌++◌, length, map, Option, Some, None, refl, arith, rules, sym, ◌∙◌, ap, subst, zero-add}
+use Rattle.std.proofs.Common.{◌≡◌, ℕ, zero, suc, ◌*◌, Bool, true, false, List, [], ◌∷◌, ◌++◌, length, map, Option, Some, None, refl, arith, ◌∙◌, ap, subst, zero-add}
 use Rattle.std.proofs.lemmas.Bool.Decides.{nat_tests}
 use Rattle.std.proofs.lemmas.List.{append-nil}
-use Rattle.std.specs.Prelude.{nat_lt, ◌==◌, ◌&&◌, ◌||◌, drop, option_map, option_and_then, slice_get, replicate, flat_map, position, slice_index, unwrap_or, codes, if◌then◌else◌}
+use Rattle.std.specs.Prelude.{◌==◌, ◌||◌, drop, option_map, option_and_then, slice_get, replicate, flat_map, position, slice_index, unwrap_or, codes, if◌then◌else◌}
 use Rattle.std.specs.List.{list_all, list_any}
 use Rattle.pi_model.specs.declared.describe.ClassDesc.{ClassDesc}
 use Rattle.pi_model.specs.declared.describe.FieldDesc.{FieldDesc}
-use Rattle.pi_model.specs.declared.describe.MethodDesc.{MethodDesc}
-use Rattle.pi_model.specs.declared.describe.Code.{Code}
-use Rattle.pi_model.specs.declared.reason.ClassState.TheVariants.{Fresh, InProgress, Done}
-use Rattle.pi_model.specs.Program.{Program, same_name, method_number}
-use Rattle.pi_model.specs.Values.{Value, Word}
+use Rattle.pi_model.specs.declared.reason.ClassState.TheVariants.{Fresh, Done}
+use Rattle.pi_model.specs.Program.{same_name, method_number}
+use Rattle.pi_model.specs.Values.{Word}
 use Rattle.pi_model.specs.Sizes.{sized, width_of, units_of}
 use Rattle.pi_model.specs.Texts.{same_text, is_named, name_of}
 use Rattle.pi_format.specs.Core.{core_names, int_name, object_name, out_name}
 use Rattle.pi_format.specs.Small.{small_chain, field_fits, is_static, all_distinct, has_text}
 use Rattle.pi_model.specs.declared.numbers.NameNo.{NameNo}
 use Rattle.pi_top.proofs.Lookups.{ClassIs}
-use Rattle.pi_machine.specs.State.{State, Thing}
-use Rattle.pi_machine.specs.Start.{start_state, start_names, first_status, first_value, first_values, argument_bytes, is_main, main_in, main_of}
-use Rattle.pi_top.specs.declared.plain.place.Stage.TheVariants as stage
-use Rattle.pi_top.specs.Plain.{View, Plain}
-use Rattle.pi_top.proofs.Lists.{both, some_same, list_all-get}
+use Rattle.pi_machine.specs.Start.{start_names, first_status, first_value, first_values, argument_bytes, is_main, main_in, main_of}
+use Rattle.pi_top.proofs.Lists.{both, some_same}
 use Rattle.pi_top.proofs.Roles.{same_name-is}
 use Rattle.pi_top.proofs.Words.{words_of}
 

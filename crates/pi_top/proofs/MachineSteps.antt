@@ -1,14 +1,14 @@
 -- A step of the plain run is a step of the machine.
-use Rattle.std.proofs.Common.{◌≡◌, ◌≢◌, ◌⊎◌, inl, inr, ℕ, zero, suc, ◌+◌, ◌-◌, ◌<◌, ◌≤◌, Bool, true, false, List, [], ◌∷◌, ◌++◌, length, Option, Some, None, refl, arith, rules, sym, ◌∙◌, ap, subst, add-one, lit≤}
+use Rattle.std.proofs.Common.{◌≡◌, ◌≢◌, inl, inr, ℕ, zero, suc, ◌+◌, ◌-◌, ◌<◌, ◌≤◌, Bool, true, false, List, [], ◌∷◌, ◌++◌, length, Option, Some, None, refl, arith, sym, ◌∙◌, ap, subst, add-one, lit≤}
 use Rattle.std.proofs.lemmas.Bool.Decides.{nat_tests}
 use Rattle.std.proofs.lemmas.List.{append-nil, length-append}
 use Rattle.std.specs.Prelude.{nat_lt, ◌==◌, slice_get, replicate, IsSome}
 use Rattle.std.specs.List.{list_any, list_all}
 use Rattle.pi_model.specs.Program.{Program}
 use Rattle.pi_machine.specs.State.{State, Entry, Call, Record}
-use Rattle.pi_machine.specs.Deeds.{Deed, Saw, OfStatus, SetStatus, SetPhase, Push, Pop, Start, do_all, on_frame, past_call}
+use Rattle.pi_machine.specs.Deeds.{Saw, OfStatus, SetStatus, SetPhase, Push, Pop, Start, on_frame, past_call}
 use Rattle.pi_machine.specs.Step.{deeds_of, instruction_move}
-use Rattle.pi_machine.specs.Ends.{Setting, Tally, Next, Goes, End, end_by, next, next_by, next_step, counted_step, end_of, is_held_record, is_inside, frame_words}
+use Rattle.pi_machine.specs.Ends.{Tally, Goes, End, end_by, next, end_of, is_held_record, frame_words}
 use Rattle.pi_duty.specs.Duty.{lazy_setting}
 use Rattle.pi_model.specs.declared.describe.ClassDesc.{ClassDesc}
 use Rattle.pi_model.specs.declared.describe.Code.{Code}
@@ -23,19 +23,19 @@ use Rattle.pi_format.specs.Small.{small_chain, insn_fits, line_fits}
 use Rattle.pi_model.specs.declared.describe.Init.{Init}
 use Rattle.pi_model.specs.declared.describe.Init.TheVariants as init
 use Rattle.pi_format.specs.Shape.{laid_from, has_no_value, is_zero}
-use Rattle.pi_machine.specs.State.{Thing, Frame, Phase, Entered, ValuesSet, Running}
+use Rattle.pi_machine.specs.State.{Thing, Entered, ValuesSet, Running}
 use Rattle.pi_machine.specs.Rows.{code_of, line_of, row}
 use Rattle.pi_machine.specs.Initialisation.{clinit_of, value_deeds, values_from, by_need, needed_by, needed_at}
 use Rattle.pi_top.specs.declared.plain.place.Stage.{Stage}
 use Rattle.pi_top.specs.declared.plain.place.Stage.TheVariants as stage
 use Rattle.pi_top.specs.Places.{Registers}
-use Rattle.pi_top.specs.Plain.{insn_or_return, insn_of, stage_after, stage_after_values, clinit_move, clinit_step, main_step, blank, clinit_words, View, Plain, plain_move, is_over, plain_step, effect_at, Fits, ClinitFits, FrameFits}
+use Rattle.pi_top.specs.Plain.{insn_or_return, insn_of, stage_after, stage_after_values, clinit_move, clinit_step, main_step, blank, clinit_words, View, Plain, plain_move, is_over, effect_at, Fits, ClinitFits, FrameFits}
 use Rattle.pi_top.proofs.Lookups.{ClassIs}
 use Rattle.pi_top.specs.Row.{Effect, effect_of}
 use Rattle.pi_top.proofs.Laid.{find_laid, next_laid, first_laid}
 use Rattle.pi_top.proofs.MachineRows.{DoesTo, IsOpen, base, frame, stack_after, insn_does}
 use Rattle.pi_top.proofs.Lists.{both, list_all-get}
-use Rattle.pi_top.proofs.PlainLaws.{registers_stay, statics_stay, next_stands}
+use Rattle.pi_top.proofs.PlainLaws.{registers_stay, next_stands}
 use Rattle.pi_top.proofs.Words.{words_of, length_words, zero_words, fails_lt}
 
 none_held : (stack : List Entry) → list_any (is_held_record []) stack ≡ false

@@ -1,20 +1,20 @@
 -- Laws of the plain run: what a state keeps that it can go on from, and that it always ends.
 use Rattle.std.proofs.Common.{◌≡◌, ◌≢◌, ◌⊎◌, inl, inr, ℕ, zero, suc, ◌+◌, ◌-◌, ◌<◌, ◌≤◌, Bool, true, false, List, [], ◌∷◌, ◌++◌, length, Option, Some, None, refl, arith, rules, sym, ◌∙◌, ap, subst, append_assoc}
 use Rattle.std.proofs.lemmas.List.{append-nil}
-use Rattle.std.specs.Prelude.{slice_get, slice_set, if◌then◌else◌, IsSome, ◌==◌}
+use Rattle.std.specs.Prelude.{slice_get, IsSome, ◌==◌}
 use Rattle.pi_model.specs.declared.describe.ClassDesc.{ClassDesc}
 use Rattle.pi_model.specs.declared.describe.Code.{Code}
 use Rattle.pi_model.specs.declared.describe.Line.{Line}
 use Rattle.pi_model.specs.declared.insn.Insn.{Insn}
 use Rattle.pi_model.specs.declared.insn.Insn.TheVariants.{Const, Sget, Sput, ReturnVoid, Invoke}
-use Rattle.pi_format.specs.Small.{line_fits, is_return, ends_in_return}
+use Rattle.pi_format.specs.Small.{is_return, ends_in_return}
 use Rattle.pi_machine.specs.Ends.{Finish, Returned, StepLimit}
 use Rattle.pi_top.specs.declared.plain.place.Stage.{Stage}
 use Rattle.pi_top.specs.declared.plain.place.Stage.TheVariants.{Untouched, Entered, Valued, Initialising, Finishing, Ready, Running, Over}
 use Rattle.pi_base.specs.Outside.{grown, Begins}
 use Rattle.pi_top.specs.Places.{Registers}
-use Rattle.pi_top.specs.Row.{Effect, effect_of}
-use Rattle.pi_top.specs.Plain.{View, Plain, insn_or_return, insn_of, effect_at, line_after, frame_after, Stepped, at_stage, stage_after, clinit_step, main_step, stage_after_values, clinit_move, plain_move, plain_step, is_over, finished, plain_by, PlainEnds, FrameFits, ClinitFits, Fits}
+use Rattle.pi_top.specs.Row.{effect_of}
+use Rattle.pi_top.specs.Plain.{View, Plain, insn_or_return, insn_of, effect_at, line_after, frame_after, stage_after, main_step, stage_after_values, clinit_move, plain_move, plain_step, is_over, finished, PlainEnds, FrameFits, ClinitFits, Fits}
 
 -- an instruction keeps how many registers and statics there are
 pub registers_stay : (d : ClassDesc) (i : Insn) (r s : List ℕ) → length (effect_of d i r s).registers ≡ length r

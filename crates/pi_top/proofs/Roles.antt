@@ -1,21 +1,20 @@
 -- What is known of the methods of the class of a small file.
-use Rattle.std.proofs.Common.{◌≡◌, ◌≢◌, ◌⊎◌, inl, inr, ℕ, zero, suc, ◌+◌, ◌-◌, ◌<◌, ◌≤◌, Bool, true, false, List, [], ◌∷◌, ◌++◌, length, Option, Some, None, refl, arith, rules, sym, ◌∙◌, ap, subst}
-use Rattle.std.specs.Prelude.{nat_le, slice_get, if◌then◌else◌, ◌&&◌, ◌||◌, ◌==◌, not, find, position, codes}
-use Rattle.std.specs.List.{list_all, list_any}
+use Rattle.std.proofs.Common.{◌≡◌, ◌⊎◌, inl, inr, ℕ, ◌-◌, ◌≤◌, Bool, true, false, List, [], ◌∷◌, Option, Some, None, refl, arith, ap}
+use Rattle.std.specs.Prelude.{nat_le, slice_get, if◌then◌else◌, ◌&&◌, ◌||◌, ◌==◌, position}
+use Rattle.std.specs.List.{list_all}
 use Rattle.std.proofs.lemmas.Bool.Decides.{nat_tests}
 use Rattle.pi_model.specs.declared.numbers.NameNo.{NameNo}
 use Rattle.pi_model.specs.declared.describe.ClassDesc.{ClassDesc}
 use Rattle.pi_model.specs.declared.describe.MethodDesc.{MethodDesc}
 use Rattle.pi_model.specs.declared.describe.Code.{Code}
-use Rattle.pi_model.specs.Program.{Program, same_name}
+use Rattle.pi_model.specs.Program.{same_name}
 use Rattle.pi_model.specs.Search.{same_names}
 use Rattle.pi_format.specs.Core.{main_name, clinit_name, void_name, strings_name, core_names}
 use Rattle.pi_format.specs.Small.{is_static, line_fits, ends_in_return, code_fits, method_fits, main_fits, clinit_fits, methods_fit, small_chain}
-use Rattle.pi_machine.specs.Rows.{code_in}
 use Rattle.pi_machine.specs.Start.{is_main}
 use Rattle.pi_machine.specs.Initialisation.{is_clinit}
 use Rattle.pi_top.specs.Roles.{method_named}
-use Rattle.pi_top.proofs.Lists.{both, is_true}
+use Rattle.pi_top.proofs.Lists.{both}
 
 same_number : (a b : NameNo) → a.0 ≡ b.0 → a ≡ b
 same_number a b e = ap (λ (n : ℕ). let r : NameNo = record { 0 = n } in r) e

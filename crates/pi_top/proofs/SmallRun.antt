@@ -1,7 +1,7 @@
 -- The plain run of a small file from its start ends as the machine's does.
-use Rattle.std.proofs.Common.{◌≡◌, ◌≢◌, ◌⊎◌, inl, inr, ℕ, zero, suc, ◌+◌, ◌-◌, ◌<◌, ◌≤◌, Bool, true, false, List, [], ◌∷◌, ◌++◌, length, map, Option, Some, None, refl, arith, rules, sym, ◌∙◌, ap, subst, lit<}
+use Rattle.std.proofs.Common.{◌≡◌, inl, inr, ℕ, ◌-◌, ◌<◌, ◌≤◌, true, false, List, [], ◌∷◌, ◌++◌, length, map, Option, Some, None, refl, arith, sym, ◌∙◌, ap, subst, lit<}
 use Rattle.std.proofs.lemmas.List.{length-replicate}
-use Rattle.std.specs.Prelude.{is_some, nat_lt, slice_get, replicate, flat_map}
+use Rattle.std.specs.Prelude.{is_some, nat_lt}
 use Rattle.std.specs.List.{list_all}
 use Rattle.pi_model.specs.declared.describe.ClassDesc.{ClassDesc}
 use Rattle.pi_model.specs.declared.describe.MethodDesc.{MethodDesc}
@@ -13,19 +13,19 @@ use Rattle.pi_model.specs.Texts.{same_text}
 use Rattle.pi_format.specs.Core.{core_names, main_name, clinit_name}
 use Rattle.pi_format.specs.Small.{small_chain, class_fits, has_text, all_distinct, line_fits, ends_in_return}
 use Rattle.pi_format.specs.Shape.{laid_from, code_laid, code_small, method_laid, method_small, has_no_value, IsSmall}
-use Rattle.pi_machine.specs.State.{State, Thing, Made}
-use Rattle.pi_machine.specs.Start.{start_state, argument_bytes, argument_objects, main_of}
-use Rattle.pi_machine.specs.Ends.{Finish, Tally, EndsFrom, EndsWith, BeginsAndEnds, first_tally}
-use Rattle.pi_machine.specs.Rows.{code_in, code_of}
+use Rattle.pi_machine.specs.State.{Made}
+use Rattle.pi_machine.specs.Start.{start_state, argument_bytes, argument_objects}
+use Rattle.pi_machine.specs.Ends.{Finish, EndsFrom, first_tally}
+use Rattle.pi_machine.specs.Rows.{code_in}
 use Rattle.pi_duty.specs.Duty.{lazy_setting}
 use Rattle.pi_top.specs.declared.plain.place.Stage.TheVariants.{Untouched}
 use Rattle.pi_top.specs.Answer.{RunEnds}
-use Rattle.pi_top.specs.Plain.{View, Plain, blank, clinit_words, plain_start, PlainEnds, FrameFits, ClinitFits, Fits}
+use Rattle.pi_top.specs.Plain.{View, blank, clinit_words, plain_start, PlainEnds, FrameFits, ClinitFits, Fits}
 use Rattle.pi_top.specs.Roles.{method_named, HasMain, SeesClass}
-use Rattle.pi_top.proofs.Lists.{both, some_same, list_all-get}
+use Rattle.pi_top.proofs.Lists.{some_same, list_all-get}
 use Rattle.pi_top.proofs.Lookups.{ClassIs, class_is, finds_method, finds_code}
-use Rattle.pi_top.proofs.Roles.{MethodIs, MainIs, ClinitIs, ClinitAt, NoClinit, RolesOf, roles_of}
-use Rattle.pi_top.proofs.Words.{words_of, lt_of}
+use Rattle.pi_top.proofs.Roles.{ClinitAt, NoClinit, RolesOf, roles_of}
+use Rattle.pi_top.proofs.Words.{lt_of}
 use Rattle.pi_top.proofs.MachineSteps.{Found, ClinitCode, ClinitFound, Begun, state_at, counted}
 use Rattle.pi_top.proofs.MachineStart.{bytes_at_start, statics_at_start, statuses_at_start, finds_main}
 use Rattle.pi_top.proofs.MachineRuns.{machine_ends}

@@ -1,6 +1,5 @@
 -- Lists of words as values of the machine.
-use Rattle.std.proofs.Common.{◌≡◌, ℕ, zero, suc, ◌+◌, ◌<◌, ◌≤◌, Bool, true, false, List, [], ◌∷◌, ◌++◌, length, map, Option, Some, None, refl, arith, rules, sym, ◌∙◌, ap}
-use Rattle.std.proofs.lemmas.List.{append-nil}
+use Rattle.std.proofs.Common.{◌≡◌, ℕ, zero, suc, ◌<◌, ◌≤◌, true, false, List, [], ◌∷◌, ◌++◌, length, map, Some, refl, arith, ap}
 use Rattle.std.specs.Prelude.{slice_get, slice_set, slice_index, nat_lt, replicate}
 use Rattle.pi_model.specs.Values.{Value, Word}
 

@@ -1,5 +1,5 @@
 -- The plain run of a small file as a function on lists: the moves of its class, and its codes line by line.
-use Rattle.std.specs.Prelude.{◌≡◌, ℕ, zero, suc, ◌+◌, ◌-◌, ◌<◌, ◌==◌, List, [], ◌∷◌, ◌++◌, length, slice_get, replicate, Option, Some, None, Bool, true, false, if◌then◌else◌, is_some, IsSome}
+use Rattle.std.specs.Prelude.{◌≡◌, ℕ, zero, suc, ◌+◌, ◌-◌, ◌<◌, ◌==◌, List, [], ◌++◌, length, slice_get, replicate, Option, Some, None, Bool, true, false, if◌then◌else◌, IsSome}
 use Rattle.std.specs.List.{list_all}
 use Rattle.pi_model.specs.declared.describe.ClassDesc.{ClassDesc}
 use Rattle.pi_model.specs.declared.describe.Code.{Code}

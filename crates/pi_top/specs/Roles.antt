@@ -1,9 +1,8 @@
 -- Which methods of the class of a small file are main and the initialiser.
-use Rattle.std.specs.Prelude.{◌≡◌, ℕ, find, List, Option, Some, IfSome, IsSome}
+use Rattle.std.specs.Prelude.{◌≡◌, find, List, Option, Some, IfSome, IsSome}
 use Rattle.pi_model.specs.declared.numbers.NameNo.{NameNo}
 use Rattle.pi_model.specs.declared.describe.ClassDesc.{ClassDesc}
 use Rattle.pi_model.specs.declared.describe.MethodDesc.{MethodDesc}
-use Rattle.pi_model.specs.declared.describe.Code.{Code}
 use Rattle.pi_model.specs.Program.{Program, same_name}
 use Rattle.pi_model.specs.Search.{class_at}
 use Rattle.pi_format.specs.Core.{main_name, clinit_name}

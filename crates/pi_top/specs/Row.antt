@@ -1,5 +1,5 @@
 -- What an instruction of a small file does to the registers of its code and to the statics of its class.
-use Rattle.std.specs.Prelude.{ℕ, List, [], ◌∷◌, slice_index, slice_set, unwrap_or, Bool, true, false}
+use Rattle.std.specs.Prelude.{ℕ, List, [], slice_index, slice_set, unwrap_or, Bool, true, false}
 use Rattle.pi_model.specs.declared.describe.ClassDesc.{ClassDesc}
 use Rattle.pi_model.specs.declared.insn.FieldRef.{FieldRef}
 use Rattle.pi_model.specs.declared.insn.Insn.{Insn}

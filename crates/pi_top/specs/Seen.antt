@@ -1,5 +1,4 @@
 -- What the plain run's definitions see of its values.
-use Rattle.std.specs.Prelude.{ℕ, List, Option}
 use Rattle.std.specs.Option.{option_copied}
 use Rattle.pi_top.specs.declared.plain.place.Small.{Small}
 use Rattle.pi_top.specs.declared.plain.place.Place.{Place}

@@ -1,9 +1,7 @@
 -- The plain run of the program's class from its start is the machine's run.
-use Rattle.std.proofs.Common.{◌≡◌, ℕ, List, [], subst, sym}
-use Rattle.pi_format.specs.Shape.{IsSmall}
+use Rattle.std.proofs.Common.{[], subst, sym}
 use Rattle.pi_top.specs.Plain.{Plain, plain_start, PlainEnds, Fits}
-use Rattle.pi_top.specs.Roles.{SeesClass}
-use Rattle.pi_top.specs.Seen.{view_of, plain_of}
+use Rattle.pi_top.specs.Seen.{view_of}
 use Rattle.pi_top.proofs.SmallRun.{small_has_main, small_fits, small_room, small_run}
 use Rattle.pi_top.proofs.plain.run_small.Goals as goal
 

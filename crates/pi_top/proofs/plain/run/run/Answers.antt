@@ -1,10 +1,9 @@
 -- Where the loop ends the run ends as it does from there; a fault leaves a front of the output.
-use Rattle.std.proofs.Common.{◌≡◌, ◌≢◌, ℕ, ◌+◌, ◌<◌, Bool, true, false, List, [], ◌++◌, refl, arith, rules, sym, ap, subst, ◌∙◌}
-use Rattle.pi_base.specs.Outside.{grown, Begins}
-use Rattle.pi_machine.specs.Ends.{Finish, Returned, StepLimit}
-use Rattle.pi_top.specs.Plain.{Plain, plain_step, finished, is_over, Fits, PlainEnds}
+use Rattle.std.proofs.Common.{◌≡◌, true, false, refl, ◌∙◌}
+use Rattle.pi_machine.specs.Ends.{Returned, StepLimit}
+use Rattle.pi_top.specs.Plain.{finished, is_over, PlainEnds}
 use Rattle.pi_top.specs.Seen.{view_of, plain_of}
-use Rattle.pi_top.proofs.PlainLaws.{SoFar, EndsAfter, ends_over, ends_limited, ends_back, ends_after, fits_on, over_not, so_far_on, front_of_end}
+use Rattle.pi_top.proofs.PlainLaws.{ends_over, ends_limited, so_far_on, front_of_end}
 use Rattle.pi_top.proofs.plain.run.run.Goals as goal
 
 pub returns-then-made-limit-clause-ends : goal.returns-then-made-limit-clause-ends

@@ -1,6 +1,5 @@
 -- The instruction fits the registers, as all of the code do.
-use Rattle.std.proofs.Common.{◌≡◌, ℕ, List, Bool, true, length, sym, ap, subst, ◌∙◌}
-use Rattle.std.specs.Prelude.{IsTrue}
+use Rattle.std.proofs.Common.{◌≡◌, ℕ, List, true, length, sym, subst}
 use Rattle.std.specs.List.{list_all}
 use Rattle.pi_format.specs.Small.{insn_fits, line_fits}
 use Rattle.pi_top.specs.Places.{Registers}
