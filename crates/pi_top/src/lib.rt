@@ -7,7 +7,5 @@ mod command;
 mod lines;
 mod outcome;
 mod plain;
-#[cfg(test)]
-mod tests;
 
 pub use answer::tool;
