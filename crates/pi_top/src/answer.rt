@@ -1,9 +1,9 @@
 // The top call. docs/commands.md states the commands.
 ghost use Rattle.std.specs.Prelude.{◌≡◌, ◌↔◌, ◌≤◌, map, length, string_bytes, Some, None, IsTrue, IsSomeAnd, List, ℕ, false};
-ghost use Rattle.pi_base.specs.Outside.{Begins, Counts, grown};
-ghost use Rattle.pi_duty.specs.Words.{LazyWords, lazy_words};
+ghost use Rattle.pi_base.specs.Outside.{Counts};
+ghost use Rattle.pi_duty.specs.Words.{lazy_words};
 ghost use Rattle.pi_duty.specs.Lines.{memory_line, out_fault_line, read_fault_line};
-ghost use Rattle.pi_duty.specs.Duty.{LazyOwes, Owed};
+ghost use Rattle.pi_duty.specs.Duty.{LazyOwes};
 ghost use Rattle.pi_top.specs.Answer.{Answered, Cuts, OwesOver, Told, ends_in_out_fault, is_owed, is_status, may_come};
 ghost use Rattle.pi_top.specs.Outcome.{FileGives, OutcomeGives, status_of};
 

@@ -1,8 +1,8 @@
 // The words of a command, read by hand. docs/commands.md states the commands.
-ghost use Rattle.std.specs.Prelude.{◌≡◌, List, [], ◌∷◌, map, option_map, codes, string_bytes};
+ghost use Rattle.std.specs.Prelude.{◌≡◌, [], ◌∷◌, map, option_map, codes, string_bytes};
 ghost use Rattle.std.specs.Char.{is_ascii_digit};
 ghost use Rattle.std.specs.List.{list_all};
-ghost use Rattle.pi_duty.specs.Words.{LazyWords, has_dash, is_number, lazy_words, number_up_to};
+ghost use Rattle.pi_duty.specs.Words.{has_dash, is_number, lazy_words, number_up_to};
 
 /// The greatest limit on steps.
 const MOST_STEPS: u64 = 1_000_000_000_000;

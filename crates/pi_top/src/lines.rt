@@ -1,6 +1,6 @@
 // The lines that tell on the error sink how a command ended. None takes memory, and nothing is written after a fault.
 // docs/commands.md states the lines.
-ghost use Rattle.std.specs.Prelude.{◌++◌, codes};
+ghost use Rattle.std.specs.Prelude.{◌++◌};
 ghost use Rattle.pi_duty.specs.Lines.{line, made_line, step_limit_line};
 ghost use Rattle.pi_top.specs.Answer.{Puts, Told};
 

@@ -1,6 +1,6 @@
 // The instructions of a small file, a row each.
 
-ghost use Rattle.std.specs.Prelude.{◌≡◌, ◌++◌, ◌∷◌, [], ◌≤◌, ◌<◌, ◌+◌, ◌&&◌, length, take, drop, position, IfOk, OnOk, OnErr, IsTrue, is_err, IsSome, IfSome, slice_set, slice_index};
+ghost use Rattle.std.specs.Prelude.{◌≡◌, ◌≤◌, ◌<◌, ◌&&◌, length, take, position, IfOk, OnOk, OnErr, IsTrue, is_err, IsSome};
 ghost use Rattle.pi_base.specs.Outside.{Begins, Counts, grown};
 ghost use Rattle.pi_format.specs.Small.{insn_fits};
 ghost use Rattle.pi_machine.specs.Natives.{printed_int};

@@ -1,6 +1,6 @@
 // The whole plain run, under a limit on its steps.
 
-ghost use Rattle.std.specs.Prelude.{◌≡◌, ◌<◌, ◌^◌, ℕ, List, []};
+ghost use Rattle.std.specs.Prelude.{◌≡◌, []};
 ghost use Rattle.pi_base.specs.Outside.{Counts};
 ghost use Rattle.pi_machine.specs.Ends.{Finish};
 ghost use Rattle.pi_top.specs.Answer.{AnswersRun, is_out_fault};

@@ -1,7 +1,6 @@
 // One step of the plain run.
 
-ghost use Rattle.std.specs.Prelude.{◌≡◌, ◌≢◌, ◌<◌, length, IfOk, OnOk, OnErr, IsTrue, is_err};
-ghost use Rattle.std.specs.List.{list_all};
+ghost use Rattle.std.specs.Prelude.{◌≡◌, ◌≢◌, ◌<◌, length, IfOk, OnOk, OnErr, is_err};
 ghost use Rattle.pi_base.specs.Outside.{Begins, Counts, grown};
 ghost use Rattle.pi_top.specs.Plain.{effect_at, frame_after, plain_step, plain_move, stage_after_values, FrameFits, Fits};
 ghost use Rattle.pi_top.specs.Seen.{view_of, plain_of};
