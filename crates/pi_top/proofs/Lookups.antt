@@ -112,7 +112,7 @@ module _ (new : List (List ℕ)) (d : ClassDesc) (is : ClassIs d) where
   pub field_number_is : (i : ℕ) → field_no_of (small_chain new d) (in_class 2 i) ≡ i
   field_number_is i = zero-add i
 
-  pub parent_class : class_of (small_chain new d) object_name ≡ Some 0
+  parent_class : class_of (small_chain new d) object_name ≡ Some 0
   parent_class = refl
 
   -- the code of the method at a place of the class

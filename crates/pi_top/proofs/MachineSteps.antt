@@ -154,7 +154,7 @@ module _ (new : List (List ℕ)) (d : ClassDesc) (is : ClassIs d) (things : List
       }
 
   -- the step of a frame does what the plain run does
-  pub frame_does : DoesTo (small_chain new d) frame_now (deeds_of (small_chain new d) frame_now) (frame_next (effect_at d code f statics))
+  frame_does : DoesTo (small_chain new d) frame_now (deeds_of (small_chain new d) frame_now) (frame_next (effect_at d code f statics))
   frame_does =
       let h : Here code.insns f.line = here code.insns f.line fits.stands in
       let same : effect_of d h.item.insn f.words statics ≡ effect_at d code f statics = ap (λ o. effect_of d (insn_or_return o) f.words statics) (sym h.there) in

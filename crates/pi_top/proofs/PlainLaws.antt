@@ -22,7 +22,7 @@ registers_stay d (Const a v) r s = search rules
 registers_stay d (Sget kind a f) r s = search rules
 registers_stay d _ r s = refl
 
-pub statics_stay : (d : ClassDesc) (i : Insn) (r s : List ℕ) → length (effect_of d i r s).statics ≡ length s
+statics_stay : (d : ClassDesc) (i : Insn) (r s : List ℕ) → length (effect_of d i r s).statics ≡ length s
 statics_stay d (Sput kind a f) r s = search rules
 statics_stay d _ r s = refl
 
@@ -114,7 +114,7 @@ pub fits_on : (v : View) (s : Plain) → Fits v s → Fits v (plain_step v s).st
 fits_on v s fits = move_on v s s.stage fits
 
 -- the run is over exactly at its last stage
-pub over_not : (stage : Stage) → is_over stage ≡ false → stage ≢ Over
+over_not : (stage : Stage) → is_over stage ≡ false → stage ≢ Over
 over_not stage e h = true-not-false (is_over stage) (ap is_over h) e
 
 -- how a run ends at its last stage, at the limit, and else as it ends after a step
@@ -126,7 +126,7 @@ ends_limited v limit s made out goes met =
     let b : (made == limit) ≡ true = grind arith in
     record { count = 1; ends = rw (goes, b) refl }
 
-pub ends_back : (v : View) (limit : ℕ) (s : Plain) (made : ℕ) (out : List ℕ) (f : Finish) → is_over s.stage ≡ false → made ≢ limit
+ends_back : (v : View) (limit : ℕ) (s : Plain) (made : ℕ) (out : List ℕ) (f : Finish) → is_over s.stage ≡ false → made ≢ limit
     → PlainEnds v limit (plain_step v s).state (made + 1) (out ++ (plain_step v s).printed) f → PlainEnds v limit s made out f
 ends_back v limit s made out f goes more e =
     let b : (made == limit) ≡ false = grind arith in
@@ -176,7 +176,7 @@ ends_left (suc left) v limit s made out is = elim (over_or_not (is_over s.stage)
       (ends_left left v limit (plain_step v s).state (made + 1) (out ++ (plain_step v s).printed) (omega arith))
 ]
 
-pub ends_after : (v : View) (limit : ℕ) (s : Plain) (made : ℕ) (out : List ℕ) → made ≤ limit → EndsAfter v limit s made out
+ends_after : (v : View) (limit : ℕ) (s : Plain) (made : ℕ) (out : List ℕ) → made ≤ limit → EndsAfter v limit s made out
 ends_after v limit s made out within = ends_left (limit - made) v limit s made out (omega arith)
 
 -- a run so far: what was printed, and that it ends from here as it does from its start

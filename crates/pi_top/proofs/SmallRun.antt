@@ -147,7 +147,7 @@ module _ (text : List ℕ) (new : List (List ℕ)) (v : View) (facts : ClassFact
     init = clinit_parts.found;
   }
 
-  pub start_fits : Fits v (plain_start v)
+  start_fits : Fits v (plain_start v)
   start_fits = record { statics = length-replicate (length v.class.fields) 0; clinit = clinit_parts.fits; main = main_fits_blank; initialises = λ e. cc }
 
   start_begun : Begun new v main_number clinit_parts.number (map (λ o. Made None o) (argument_objects (small_chain new v.class) [])) (plain_start v) Untouched
@@ -166,7 +166,7 @@ module _ (text : List ℕ) (new : List (List ℕ)) (v : View) (facts : ClassFact
   tally_same : first_tally (small_chain new v.class) [] ≡ counted new v main_number clinit_parts.number (map (λ o. Made None o) (argument_objects (small_chain new v.class) [])) 0
   tally_same = rw (bytes_at_start new v.class) refl
 
-  pub run_ends : (limit : ℕ) (f : Finish) → PlainEnds v limit (plain_start v) 0 [] f → RunEnds (small_chain new v.class) text limit f
+  run_ends : (limit : ℕ) (f : Finish) → PlainEnds v limit (plain_start v) 0 [] f → RunEnds (small_chain new v.class) text limit f
   run_ends limit f e =
       let x : EndsFrom (small_chain new v.class) (lazy_setting limit) (state_at new v main_number clinit_parts.number (map (λ o. Made None o) (argument_objects (small_chain new v.class) [])) (plain_start v) [])
       (counted new v main_number clinit_parts.number (map (λ o. Made None o) (argument_objects (small_chain new v.class) [])) 0) f =
@@ -207,7 +207,7 @@ pub small_has_main : (text : List ℕ) (p : Program) → IsSmall text p → HasM
 small_has_main text p s =
     subst HasMain (sym s.chain) (has_main s.new s.class (roles_of s.new s.class s.class.methods (class_is s.class s.fits).methods))
 
-pub small_classes : (text : List ℕ) (p : Program) → IsSmall text p → 2 < length p.classes
+small_classes : (text : List ℕ) (p : Program) → IsSmall text p → 2 < length p.classes
 small_classes text p s = subst (λ (q : Program). 2 < length q.classes) (sym s.chain) (lit< tt)
 
 room_at : (text : List ℕ) (new : List (List ℕ)) (v : View) → ClassFacts text new v.class → code_in (method_named main_name v.class.methods) ≡ Some v.main → 1 ≤ v.main.regs

@@ -1,5 +1,5 @@
 // The plain run of a small file: the moves of its one class, and its two codes instruction by instruction. It takes no
-// memory once it has begun. docs/machine.md states the moves and the rows.
+// memory once it has begun. docs/machine.md states the moves and the instructions.
 
 ghost use Rattle.std.specs.Prelude.{◌≡◌, ℕ, List, IfOk, OnErr};
 ghost use Rattle.pi_base.specs.Outside.{Counts};
