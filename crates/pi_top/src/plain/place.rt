@@ -1,4 +1,4 @@
-// Where a plain run stands, and what it works on.
+// Where a plain run stands, and what it works on. docs/machine.md names the moves between the stages.
 
 use pi_model::describe::{ClassDesc, Code};
 use std::marker::Model;

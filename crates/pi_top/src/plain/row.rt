@@ -1,4 +1,4 @@
-// The instructions of a small file, a row each.
+// The instructions of a small file, a row each. docs/machine.md states what each does.
 
 ghost use Rattle.std.specs.Prelude.{◌≡◌, ◌≤◌, ◌<◌, ◌+◌, length, take, IfOk, OnOk, OnErr, IsTrue, is_err, IsSome};
 ghost use Rattle.pi_base.specs.Outside.{Begins, Counts, grown};

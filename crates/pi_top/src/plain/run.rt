@@ -1,4 +1,4 @@
-// The whole plain run, under a limit on its steps.
+// The whole plain run, under a limit on its steps. docs/machine.md states how runs end.
 
 ghost use Rattle.std.specs.Prelude.{◌≡◌, ◌<◌, []};
 ghost use Rattle.pi_base.specs.Outside.{Counts};

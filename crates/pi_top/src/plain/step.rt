@@ -1,4 +1,4 @@
-// One step of the plain run.
+// One step of the plain run. docs/machine.md states the moves.
 
 ghost use Rattle.std.specs.Prelude.{◌≡◌, ◌≢◌, ◌<◌, length, IfOk, OnOk, OnErr, is_err};
 ghost use Rattle.pi_base.specs.Outside.{Begins, Counts, grown};

@@ -1,4 +1,5 @@
-// The class of a small file and its codes, as the run works on them, and the place from which it starts.
+// The class of a small file and its codes, as the run works on them, and the place from which it starts. docs/machine.md
+// states the start.
 
 ghost use Rattle.std.specs.Prelude.{◌≡◌, ◌<◌, ◌≤◌, length, IfOk};
 ghost use Rattle.std.specs.Option.{option_copied};
