@@ -3,6 +3,7 @@
 #![tactic(auto)]
 
 ghost use Rattle.std.specs.Prelude.{◌≡◌};
+ghost use Rattle.pi_top.specs.Answer.{Told};
 
 use pi_base::file_store::FileStore;
 use pi_base::outside::Sink;
@@ -23,7 +24,8 @@ fn words(rt: &(impl Env + AllocGlobal)) -> io::Result<Vec<String>> {
 
 /// Tells the one line of a refusal that comes before the top call. A fault of the stream changes no status.
 fn refuse<E: Sink>(err: &mut E, line: &[u8], status: Status) -> Status
-    ensures { result ≡ status }
+    ensures answer { result ≡ status }
+    ensures told { Told line.now (E.bytes err.old) (E.bytes err.new) (E.faults err.old) (E.faults err.new) }
 {
     let _ = put_all(err, line);
     status
