@@ -114,6 +114,17 @@ fn streams_of_the_system(rt: HostRuntime) {
     assert_eq!(rt; err.write(b""), Ok(0));
 }
 
+/// A device on which nothing fits, where the machine has one.
+#[test]
+fn a_full_device(rt: HostRuntime) {
+    let Ok(device) = fs::File::options().write(true).open(&rt, "/dev/full") else {
+        return;
+    };
+    let mut sink = StreamSink::new(device);
+    assert_eq!(rt; sink.write(b"x"), Err(SinkError::Failed));
+    assert_eq!(rt; put_all(&mut sink, b"more"), Err(SinkError::Failed));
+}
+
 /// A writer that is interrupted at first, takes up to `most` bytes at a time, and may not flush.
 #[derive(Drop)]
 struct Moody {
