@@ -2,7 +2,11 @@
 // X5 and X8 that are tested first.
 #![tactic(auto)]
 
-ghost use Rattle.std.specs.Prelude.{◌≡◌, ◌+◌, ◌++◌, ◌&&◌, ◌≤◌, ◌<◌, ◌^◌, length, true, IfOk};
+ghost use Rattle.std.specs.Prelude.{◌≡◌, ◌+◌, ◌++◌, ◌&&◌, ◌≤◌, [], ◌∷◌, length, true, IfOk};
+ghost use Rattle.pi_model.specs.Distinct.{all_distinct};
+ghost use Rattle.pi_model.specs.Texts.{same_text};
+ghost use Rattle.pi_model.specs.Uses.{names_below};
+ghost use Rattle.pi_model.specs.Valid.{FitsBehind};
 ghost use Rattle.pi_format.specs.Core.{core_names, core_program};
 ghost use Rattle.pi_format.specs.Small.{class_fits, has_text, small_chain, small_class, small_program};
 ghost use Rattle.pi_format.specs.Tables.{count_at, class_defs};
@@ -36,7 +40,7 @@ use tables::{CLASS_DEFS, entry, hold_tables, holds_header, string_count, strings
 ///
 /// NotSmall says that the file is not small for the main class of that descriptor. Texts and fields are compared with
 /// all that stand before them, so the time grows with the square of their number.
-#[tactic(auto, using(crate::proofs::Places::whole, crate::proofs::Places::core_names_are_few), unfolding(pi_format::specs::Small::small_program))]
+#[tactic(auto, using(crate::proofs::Places::whole, crate::proofs::Places::core_names_are_few, pi_format::proofs::Behind::numbers_below, pi_format::proofs::Behind::names_stay_distinct), unfolding(pi_format::specs::Small::small_program))]
 pub fn read_small(alloc: Global, main: &[u8], file: &[u8]) -> Result<Prog, SmallFault>
     requires { length file.now ≤ 16777216 }
     ensures { Says (small_program main.now file.now) result }
@@ -63,6 +67,8 @@ fn chain(
     requires one_class { count_at file.now class_defs ≡ 1 }
     requires first { first ≡ core_program }
     requires few { length known.new ≤ 16777216 }
+    requires distinct { all_distinct same_text (core_names ++ known.new) ≡ true }
+    requires numbers { names_below (length core_names + length known.new) known.numbers ≡ true }
     ensures { Says (small_class main.now file.now known) result }
 {
     let at = entry(file, CLASS_DEFS, 32, 0).unwrap();
@@ -84,7 +90,6 @@ fn is_small(first: &Prog, new: &[Units], class: &ClassDesc, main: &[u16]) -> boo
 }
 
 /// The chain of the first file and one more with these new names and this class.
-#[tactic(auto, using(crate::proofs::Places::core_names_are_few))]
 fn with_class(
     alloc: Global,
     mut prog: Prog,
@@ -92,9 +97,7 @@ fn with_class(
     class: ClassDesc,
 ) -> Result<Prog, AllocError>
     requires first { prog ≡ core_program }
-    requires names { length new ≤ 16777216 }
-    requires fields { length class.fields < 2 ^ 32 }
-    requires fits { class_fits class ≡ true }
+    requires fits { FitsBehind core_program new (class.name ∷ []) (class ∷ []) }
     ensures { IfOk result (λ p. p ≡ small_chain new class) }
 {
     let mut types = Names::new(alloc);

@@ -5,7 +5,8 @@ ghost use Rattle.std.specs.Prelude.{◌≡◌, ◌++◌};
 ghost use Rattle.std.specs.List.{list_all, list_any};
 ghost use Rattle.pi_model.specs.Program.{same_name};
 ghost use Rattle.pi_model.specs.Search.{same_names};
-ghost use Rattle.pi_format.specs.Small.{is_static, all_distinct, same_field, field_fits, is_print, one_below, names_own, insn_fits, line_fits, is_return, ends_in_return, code_fits, method_fits, main_fits, clinit_fits, methods_fit, parent_fits, class_fits, has_text};
+ghost use Rattle.pi_model.specs.Distinct.{all_distinct};
+ghost use Rattle.pi_format.specs.Small.{is_static, same_field, field_fits, is_print, one_below, names_own, insn_fits, line_fits, is_return, ends_in_return, code_fits, method_fits, main_fits, clinit_fits, methods_fit, parent_fits, class_fits, has_text};
 
 use crate::first_file::{CLINIT, INT, MAIN, OBJECT, OUT, PRINT, STRINGS, VOID};
 use pi_model::describe::{ClassDesc, Code, FieldDesc, Line, MethodDesc};

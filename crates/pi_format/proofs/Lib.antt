@@ -1,2 +1,5 @@
 mod Five
 pub mod Shapes
+mod Used
+pub mod Behind
+pub mod Kept

@@ -20,16 +20,17 @@ use Rattle.pi_format.specs.Core.{core_names}
 use Rattle.pi_format.specs.Instructions.{Decoded, insn_at, lines_from, code_at}
 use Rattle.pi_format.specs.ClassData.{Read, Field, Method, Members, field_row, field_rows, method_row, method_rows, members_at, class_at}
 use Rattle.pi_format.specs.Names.{Numbered, noted, with_text, numbered_from, numbered}
-use Rattle.pi_format.specs.Small.{small_class, small_program, small_chain, class_fits, has_text, all_distinct}
+use Rattle.pi_model.specs.Distinct.{all_distinct}
+use Rattle.pi_format.specs.Small.{small_class, small_program, small_chain, class_fits, has_text}
 use Rattle.pi_format.specs.Shape.{laid_from, method_laid, method_small, has_no_value, IsSmall}
 
 -- what a step that did not fail went on with
-bind_some : {A B : Type 0} (m : Option A) (f : A → Option B) (y : B) → (m >>= f) ≡ Some y → (x : A) × (m ≡ Some x) × (f x ≡ Some y)
+pub bind_some : {A B : Type 0} (m : Option A) (f : A → Option B) (y : B) → (m >>= f) ≡ Some y → (x : A) × (m ≡ Some x) × (f x ≡ Some y)
 bind_some None f y e = absurd (none-some y e)
 bind_some (Some x) f y e = (x, refl, e)
 
 -- a step whose test is to hold went on
-choice_some : {A : Type 0} (b : Bool) (m : Option A) (y : A) → (if b then m else None) ≡ Some y → m ≡ Some y
+pub choice_some : {A : Type 0} (b : Bool) (m : Option A) (y : A) → (if b then m else None) ≡ Some y → m ≡ Some y
 choice_some true m y e = e
 choice_some false m y e = absurd (none-some y e)
 
@@ -108,7 +109,7 @@ class_zero : (file : List ℕ) (numbers : List NameNo) (at : ℕ) (d : ClassDesc
 unfolding class_at
 class_zero file numbers at d e = grind (arith, members_zero)
 
-class_second : (file : List ℕ) (numbers : List NameNo) (at : ℕ) (d : ClassDesc) → class_at file numbers at ≡ Some d → d.file.0 ≡ 1
+pub class_second : (file : List ℕ) (numbers : List NameNo) (at : ℕ) (d : ClassDesc) → class_at file numbers at ≡ Some d → d.file.0 ≡ 1
 unfolding class_at
 class_second file numbers at d e = grind arith
 
@@ -138,11 +139,11 @@ noted_distinct old so_far text (Some n) e h = h
 noted_distinct old so_far text None e h =
     rw (← append_assoc) (one_more (old ++ so_far.new) text (no_position (same_text text) (old ++ so_far.new) (sym e)) h)
 
-numbered_distinct : (old : List (List ℕ)) (so_far : Numbered) (texts : List (List ℕ)) → all_distinct same_text (old ++ so_far.new) ≡ true → all_distinct same_text (old ++ (numbered_from old so_far texts).new) ≡ true
+pub numbered_distinct : (old : List (List ℕ)) (so_far : Numbered) (texts : List (List ℕ)) → all_distinct same_text (old ++ so_far.new) ≡ true → all_distinct same_text (old ++ (numbered_from old so_far texts).new) ≡ true
 numbered_distinct old so_far [] h = h
 numbered_distinct old so_far (text ∷ texts) h = numbered_distinct old (with_text old so_far text) texts (noted_distinct old so_far text (position (same_text text) (old ++ so_far.new)) refl h)
 
-core_distinct : all_distinct same_text (core_names ++ []) ≡ true
+pub core_distinct : all_distinct same_text (core_names ++ []) ≡ true
 unfolding core_names
 core_distinct = refl
 
@@ -151,7 +152,7 @@ first_true : (a b : Bool) → (a && b) ≡ true → a ≡ true
 first_true true b e = refl
 first_true false b e = e
 
-second_true : (a b : Bool) → (a && b) ≡ true → b ≡ true
+pub second_true : (a b : Bool) → (a && b) ≡ true → b ≡ true
 second_true true b e = e
 second_true false b e = cc
 

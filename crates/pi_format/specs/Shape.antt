@@ -13,7 +13,8 @@ use Rattle.pi_model.specs.declared.describe.MethodDesc.{MethodDesc}
 use Rattle.pi_model.specs.Program.{Program}
 use Rattle.pi_model.specs.Texts.{same_text}
 use Rattle.pi_format.specs.Core.{core_names}
-use Rattle.pi_format.specs.Small.{small_chain, class_fits, has_text, all_distinct}
+use Rattle.pi_model.specs.Distinct.{all_distinct}
+use Rattle.pi_format.specs.Small.{small_chain, class_fits, has_text}
 
 -- each instruction begins where the one before it ends, the first at that address, and none is empty
 abbrev pub laid_from : ℕ → List Line → Bool

@@ -13,6 +13,7 @@ use Rattle.pi_model.specs.declared.describe.Code.{Code}
 use Rattle.pi_model.specs.declared.describe.ClassDesc.{ClassDesc}
 use Rattle.pi_model.specs.declared.describe.FieldDesc.{FieldDesc}
 use Rattle.pi_model.specs.declared.describe.MethodDesc.{MethodDesc}
+use Rattle.pi_model.specs.Distinct.{all_distinct}
 use Rattle.pi_model.specs.Program.{Program, same_name, with_file}
 use Rattle.pi_model.specs.Texts.{same_text}
 use Rattle.pi_model.specs.Search.{own_field, same_names}
@@ -25,11 +26,6 @@ use Rattle.pi_format.specs.ClassData.{class_at}
 -- the flag that makes a member static
 abbrev pub is_static : ℕ → Bool
 is_static flags = bit_and flags 8 == 8
-
--- no two of a list are the same
-abbrev pub all_distinct : {A : Type 0} → (A → A → Bool) → List A → Bool
-all_distinct same [] = true
-all_distinct same (x ∷ xs) = if list_any (same x) xs then false else all_distinct same xs
 
 abbrev pub same_field : FieldDesc → FieldDesc → Bool
 same_field a b = same_name a.name b.name && same_name a.ty b.ty

@@ -3,9 +3,11 @@
 #![tactic(auto)]
 
 pub mod describe;
+mod index;
 pub mod insn;
 pub mod listed;
 pub mod numbers;
+mod order;
 pub mod prog;
 pub mod reason;
 #[cfg(test)]

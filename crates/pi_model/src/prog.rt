@@ -1,15 +1,18 @@
 // The program of a chain of files: its names, types, classes and members by number, and what each file brought.
 
-ghost use Rattle.std.specs.Prelude.{◌≡◌, ◌≢◌, ℕ, ◌+◌, ◌^◌, ◌<◌, ◌≤◌, length, take, sum_by, position, slice_get, option_map, Some, IfOk, IfSome, IfNone, IsSomeAnd, OnOk, OnErr};
-ghost use Rattle.std.specs.List.{list_any, All};
-ghost use Rattle.pi_model.specs.Program.{no_files, with_file, same_name, new_types, field_count, method_count, field_number, method_number, all_fields, all_methods};
+ghost use Rattle.std.specs.Prelude.{◌≡◌, ◌≢◌, ℕ, ◌<◌, ◌≤◌, length, position, slice_get, slice_index_or, filter, option_map, is_none, None, Some, IfOk, IfSome, IfNone, IsSomeAnd, IsTrue, OnOk, OnErr};
+ghost use Rattle.std.specs.List.{All};
+ghost use Rattle.pi_model.specs.Program.{no_files, with_file, field_count, method_count, field_number, method_number, all_fields, all_methods};
 ghost use Rattle.pi_model.specs.Texts.{same_text, name_of};
-ghost use Rattle.pi_model.specs.Search.{class_of, type_of, class_at, in_class, member_by, method_of, field_of};
+ghost use Rattle.pi_model.specs.Uses.{class_below};
+ghost use Rattle.pi_model.specs.Valid.{FitsBehind, IsProgram};
+ghost use Rattle.pi_model.specs.Search.{class_of, type_of, class_at, in_class, method_of, field_of};
 
 use crate::describe::{ClassDesc, Classes};
+use crate::index::Index;
 use crate::listed::{Names, Texts, Units};
 use crate::numbers::{ClassNo, FieldNo, FileNo, MethodNo, NameNo, TypeNo};
-use crate::texts;
+use crate::order::find_among;
 use std::alloc::{AllocError, Global};
 use std::marker::Model;
 
@@ -34,16 +37,18 @@ pub struct Prog {
     types: Vec<NameNo>,
     classes: Vec<ClassDesc>,
     files: Vec<Part>,
+    index: Index,
 }
 
 impl Model for Prog {
-    ghost use Rattle.pi_model.specs.Program.{Program, IsCounted};
+    ghost use Rattle.pi_model.specs.Program.{Program};
+    ghost use Rattle.pi_model.specs.Index.{IsKept};
 
     ghost Value = { Program };
 
     ghost view = { λ p. record { names = p.names.items; types = p.types.items; classes = p.classes.items; files = p.files.items } };
 
-    ghost invariant = { λ p. IsCounted record { names = p.names.items; types = p.types.items; classes = p.classes.items; files = p.files.items } };
+    ghost invariant = { λ p. IsKept record { names = p.names.items; types = p.types.items; classes = p.classes.items; files = p.files.items } p.index };
 }
 
 impl Prog {
@@ -56,7 +61,16 @@ impl Prog {
             types: Vec::new(alloc),
             classes: Vec::new(alloc),
             files: Vec::new(alloc),
+            index: Index::new(alloc),
         }
+    }
+
+    /// What every program keeps: no more of each kind than 32 bits count, distinct names, distinct types, and in each
+    /// class, type and file only numbers of names and files that there are.
+    pub fn keeps(&self)
+        ensures { IsProgram self.now }
+    {
+        let _ = &self.names;
     }
 
     /// The number of names.
@@ -81,8 +95,8 @@ impl Prog {
         ensures none { IfNone result ((k : ℕ) → slice_get self.now.names k ≢ Some units.now) }
         ensures below { IfSome result (λ n. n.0 < length self.now.names) }
     {
-        match name_place(self.names.as_slice(), units) {
-            Some(at) => Some(NameNo(at as u32)),
+        match find_among(self.names.as_slice(), self.index.orders(), units) {
+            Some(at) => Some(NameNo(at)),
             None => None,
         }
     }
@@ -98,14 +112,14 @@ impl Prog {
     pub fn all_fields(&self) -> u32
         ensures { result ≡ all_fields self.now }
     {
-        fields_of(self.classes.as_slice())
+        self.index.fields()
     }
 
     /// The number of methods of all classes.
     pub fn all_methods(&self) -> u32
         ensures { result ≡ all_methods self.now }
     {
-        methods_of(self.classes.as_slice())
+        self.index.methods()
     }
 
     /// The number of classes.
@@ -118,7 +132,9 @@ impl Prog {
     /// The description of a class.
     pub fn class(&self, c: ClassNo) -> &ClassDesc
         requires { c.0 < length self.now.classes }
-        ensures { slice_get self.now.classes c.0 ≡ Some result.now }
+        ensures value { slice_get self.now.classes c.0 ≡ Some result.now }
+        ensures named { IsTrue (class_below (length self.now.names) result.now) }
+        ensures filed { result.now.file.0 < length self.now.files }
     {
         &self.classes[c.0 as usize]
     }
@@ -130,8 +146,8 @@ impl Prog {
         ensures none { IfNone result (All (λ d. d.name ≢ n) self.now.classes) }
         ensures below { IfSome result (λ c. c.0 < length self.now.classes) }
     {
-        match class_place(self.classes.as_slice(), n) {
-            Some(at) => Some(ClassNo(at as u32)),
+        match self.index.class_place(n) {
+            Some(at) => Some(ClassNo(at)),
             None => None,
         }
     }
@@ -177,8 +193,8 @@ impl Prog {
         ensures none { IfNone result (All (λ t. t ≢ n) self.now.types) }
         ensures below { IfSome result (λ t. t.0 < length self.now.types) }
     {
-        match type_place(self.types.as_slice(), n) {
-            Some(at) => Some(TypeNo(at as u32)),
+        match self.index.type_place(n) {
+            Some(at) => Some(TypeNo(at)),
             None => None,
         }
     }
@@ -191,7 +207,7 @@ impl Prog {
         ensures place { IsSomeAnd (class_at self.now result.0.0) (λ d. result.1 < method_count d) }
         ensures number { method_number self.now result.0.0 result.1 ≡ m.0 }
     {
-        method_place(self.classes.as_slice(), m.0)
+        self.index.method_place(m.0)
     }
 
     /// The declaring class of a field, and its place in the class's list.
@@ -202,7 +218,7 @@ impl Prog {
         ensures place { IsSomeAnd (class_at self.now result.0.0) (λ d. result.1 < field_count d) }
         ensures number { field_number self.now result.0.0 result.1 ≡ f.0 }
     {
-        field_place(self.classes.as_slice(), f.0)
+        self.index.field_place(f.0)
     }
 
     /// The number of the method at a place of a class's list.
@@ -212,7 +228,7 @@ impl Prog {
         ensures member { method_of self.now result.0 ≡ Some (in_class c.0 i) }
         ensures below { result.0 < all_methods self.now }
     {
-        MethodNo(methods_of(&self.classes.as_slice()[..c.0 as usize]) + i)
+        MethodNo(self.index.method_start(c) + i)
     }
 
     /// The number of the field at a place of a class's list.
@@ -222,34 +238,27 @@ impl Prog {
         ensures member { field_of self.now result.0 ≡ Some (in_class c.0 i) }
         ensures below { result.0 < all_fields self.now }
     {
-        FieldNo(fields_of(&self.classes.as_slice()[..c.0 as usize]) + i)
+        FieldNo(self.index.field_start(c) + i)
     }
 
-    /// Adds the names, the types that are not there yet and the classes of one more file.
+    /// Adds the names, the types that are not there yet and the classes of one more file, which has to fit behind
+    /// the program: there is room, its names are new, and each number that it uses is one of the names.
     pub fn add_file(
         &mut self,
         names: Texts,
         types: Names,
         classes: Classes,
     ) -> Result<(), AllocError>
-        requires files { length self.old.files < 8 }
-        requires names { length self.old.names + length names < 2 ^ 32 }
-        requires types { length self.old.types + length (new_types self.old.types types) < 2 ^ 32 }
-        requires classes { length self.old.classes + length classes < 2 ^ 32 }
-        requires fields { all_fields self.old + sum_by field_count classes < 2 ^ 32 }
-        requires methods { all_methods self.old + sum_by method_count classes < 2 ^ 32 }
+        requires { FitsBehind self.old names types classes }
         ensures ok { OnOk result (self.new ≡ with_file self.old names types classes) }
         ensures err { OnErr result (self.new ≡ self.old) }
     {
         let alloc = *self.files.allocator();
-        let mut fresh = fresh_types(alloc, self.types.as_slice(), types.as_slice())?;
+        let mut fresh = fresh_types(alloc, &self.index, types.as_slice())?;
         let mut names = names.into_vec();
         let mut classes = classes.into_vec();
-        let (old_names, old_types, old_classes) = (
-            self.names.len(),
-            self.types.len(),
-            self.classes.len(),
-        );
+        let (old_names, old_types) = (self.names.len(), self.types.len());
+        let (old_classes, old_files) = (self.classes.len(), self.files.len());
         let names_to = (old_names + names.len()) as u32;
         self.names.append(&mut names)?;
         if self.types.append(&mut fresh).is_err() {
@@ -267,117 +276,33 @@ impl Prog {
             self.classes.truncate(old_classes);
             return Err(AllocError);
         }
+        let (types, classes) = (self.types.as_slice(), self.classes.as_slice());
+        let extended = self.index.extend(
+            self.names.as_slice(),
+            types,
+            old_types,
+            classes,
+            old_classes,
+        );
+        if extended.is_err() {
+            self.names.truncate(old_names);
+            self.types.truncate(old_types);
+            self.classes.truncate(old_classes);
+            self.files.truncate(old_files);
+            return Err(AllocError);
+        }
         Ok(())
     }
 }
 
-fn name_place(names: &[Units], units: &[u16]) -> Option<usize>
-    ensures first { result ≡ position (same_text units.now) names.now }
-    ensures some { IfSome result (λ at. slice_get names.now at ≡ Some units.now) }
-    ensures none { IfNone result ((k : ℕ) → slice_get names.now k ≢ Some units.now) }
-    ensures below { IfSome result (λ at. at < length names.now) }
-{
-    names
-        .iter()
-        .position(|name| texts::same_text(units, name.as_slice()))
-}
-
-fn class_place(classes: &[ClassDesc], n: NameNo) -> Option<usize>
-    ensures first { result ≡ position (λ d. same_name d.name n) classes.now }
-    ensures some { IfSome result (λ at. IsSomeAnd (slice_get classes.now at) (λ d. d.name ≡ n)) }
-    ensures none { IfNone result (All (λ d. d.name ≢ n) classes.now) }
-    ensures below { IfSome result (λ at. at < length classes.now) }
-{
-    classes.iter().position(|class| class.name.0 == n.0)
-}
-
-fn type_place(types: &[NameNo], n: NameNo) -> Option<usize>
-    ensures first { result ≡ position (λ t. same_name t n) types.now }
-    ensures some { IfSome result (λ at. slice_get types.now at ≡ Some n) }
-    ensures none { IfNone result (All (λ t. t ≢ n) types.now) }
-    ensures below { IfSome result (λ at. at < length types.now) }
-{
-    types.iter().position(|t| t.0 == n.0)
-}
-
-fn is_among(types: &[NameNo], t: NameNo) -> bool
-    ensures { result ≡ list_any (same_name t) types.now }
-{
-    types.iter().any(|old| t.0 == old.0)
-}
-
-fn fresh_types(alloc: Global, old: &[NameNo], types: &[NameNo]) -> Result<Vec<NameNo>, AllocError>
-    ensures { IfOk result (λ fresh. fresh.items ≡ new_types old.now types.now) }
+fn fresh_types(alloc: Global, index: &Index, types: &[NameNo]) -> Result<Vec<NameNo>, AllocError>
+    ensures { IfOk result (λ fresh. fresh.items ≡ filter (λ t. is_none (slice_index_or index.now.type_slots t.0 None)) types.now) }
 {
     let mut fresh = Vec::new(alloc);
     for t in types {
-        if !is_among(old, *t) {
+        if index.type_place(*t).is_none() {
             fresh.push(*t)?;
         }
     }
     Ok(fresh)
-}
-
-fn methods_of(classes: &[ClassDesc]) -> u32
-    requires { sum_by method_count classes.now < 2 ^ 32 }
-    ensures { result ≡ sum_by method_count classes.now }
-{
-    let mut count = 0;
-    for class in classes {
-        count += class.methods.len() as u32;
-    }
-    count
-}
-
-fn fields_of(classes: &[ClassDesc]) -> u32
-    requires { sum_by field_count classes.now < 2 ^ 32 }
-    ensures { result ≡ sum_by field_count classes.now }
-{
-    let mut count = 0;
-    for class in classes {
-        count += class.fields.len() as u32;
-    }
-    count
-}
-
-fn method_place(classes: &[ClassDesc], number: u32) -> (ClassNo, u32)
-    requires below { number < sum_by method_count classes.now }
-    requires few { length classes.now < 2 ^ 32 }
-    ensures member { member_by method_count classes.now 0 number ≡ Some (in_class result.0.0 result.1) }
-    ensures class { result.0.0 < length classes.now }
-    ensures place { IsSomeAnd (slice_get classes.now result.0.0) (λ d. result.1 < method_count d) }
-    ensures number { sum_by method_count (take result.0.0 classes.now) + result.1 ≡ number }
-{
-    let mut left = number;
-    let mut c = 0;
-    for class in classes {
-        let here = class.methods.len();
-        if (left as usize) < here {
-            break;
-        }
-        left -= here as u32;
-        c += 1;
-    }
-    (ClassNo(c), left)
-}
-
-fn field_place(classes: &[ClassDesc], number: u32) -> (ClassNo, u32)
-    requires below { number < sum_by field_count classes.now }
-    requires few { length classes.now < 2 ^ 32 }
-    ensures member { member_by field_count classes.now 0 number ≡ Some (in_class result.0.0 result.1) }
-    ensures class { result.0.0 < length classes.now }
-    ensures place { IsSomeAnd (slice_get classes.now result.0.0) (λ d. result.1 < field_count d) }
-    ensures number { sum_by field_count (take result.0.0 classes.now) + result.1 ≡ number }
-{
-    let mut left = number;
-    let mut c = 0;
-    for class in classes {
-        let here = class.fields.len();
-        if (left as usize) < here {
-            break;
-        }
-        left -= here as u32;
-        c += 1;
-    }
-    (ClassNo(c), left)
 }

@@ -1,18 +1,24 @@
 // Each public call once with ample memory.
 
-ghost use Rattle.std.specs.Prelude.{◌≡◌, ◌<◌, length, sum_by, IfOk};
-ghost use Rattle.pi_model.specs.Program.{field_count, method_count};
+ghost use Rattle.std.specs.Prelude.{◌≡◌, ℕ, ◌<◌, ◌≤◌, ◌^◌, [], ◌∷◌, length, sum_by, IfOk, IsTrue};
+ghost use Rattle.std.specs.List.{list_all};
+ghost use Rattle.pi_model.specs.Order.{AreOrders};
+ghost use Rattle.pi_model.specs.Program.{all_fields, all_methods, field_count, method_count};
+ghost use Rattle.pi_model.specs.Uses.{method_below, class_below};
+ghost use Rattle.pi_model.specs.Valid.{of_file};
 
 use crate::describe::{ClassDesc, Classes, FieldDesc, Fields, Init, MethodDesc, Methods};
-use crate::listed::{Names, Texts, Units};
+use crate::listed::{Listed, Names, Texts, Units};
 use crate::numbers::{ClassNo, FieldNo, FileNo, MethodNo, NameNo, TypeNo};
+use crate::order::{find_among, find_in, order_of};
 use crate::prog::Prog;
 use crate::texts::{same_text, text_of};
 use std::alloc::{AllocError, Global};
-use std::process::Abort;
 use std::test::Fail;
 
-fn method(alloc: Global, name: NameNo) -> MethodDesc {
+fn method(alloc: Global, name: NameNo) -> MethodDesc
+    ensures { (n : ℕ) → 2 < n → name.0 < n → IsTrue (method_below n result) }
+{
     MethodDesc {
         name,
         params: Names::new(alloc),
@@ -25,6 +31,8 @@ fn method(alloc: Global, name: NameNo) -> MethodDesc {
 fn class(alloc: Global, file: FileNo, name: NameNo) -> Result<ClassDesc, AllocError>
     ensures fields { IfOk result (λ d. length d.fields ≡ 1) }
     ensures methods { IfOk result (λ d. length d.methods ≡ 2) }
+    ensures filed { IfOk result (λ d. IsTrue (of_file file.0 d)) }
+    ensures named { (n : ℕ) → 2 < n → name.0 < n → IfOk result (λ d. IsTrue (class_below n d)) }
 {
     let mut fields = Fields::new(alloc);
     fields.push(FieldDesc {
@@ -52,66 +60,47 @@ fn classes(alloc: Global, file: FileNo, name: NameNo) -> Result<Classes, AllocEr
     ensures count { IfOk result (λ list. length list ≡ 1) }
     ensures fields { IfOk result (λ list. sum_by field_count list ≡ 1) }
     ensures methods { IfOk result (λ list. sum_by method_count list ≡ 2) }
+    ensures filed { IfOk result (λ list. IsTrue (list_all (of_file file.0) list)) }
+    ensures named { (n : ℕ) → 2 < n → name.0 < n → IfOk result (λ list. IsTrue (list_all (class_below n) list)) }
 {
     let mut list = Classes::new(alloc);
     list.push(class(alloc, file, name)?)?;
     Ok(list)
 }
 
-fn add(
-    rt: &impl Abort,
-    prog: &mut Prog,
-    names: Texts,
-    types: Names,
-    classes: Classes,
-) -> Result<(), AllocError>
-    requires count { length classes ≡ 1 }
-    requires fields { sum_by field_count classes ≡ 1 }
-    requires methods { sum_by method_count classes ≡ 2 }
+// LA;, f and I with the types LA; and I.
+fn first_file(alloc: Global) -> Result<Prog, AllocError>
+    ensures names { IfOk result (λ p. p.names ≡ (76 ∷ 65 ∷ 59 ∷ []) ∷ (102 ∷ []) ∷ (73 ∷ []) ∷ []) }
+    ensures types { IfOk result (λ p. p.types ≡ record { 0 = 0 } ∷ record { 0 = 2 } ∷ []) }
+    ensures files { IfOk result (λ p. length p.files ≡ 1) }
+    ensures classes { IfOk result (λ p. length p.classes ≡ 1) }
+    ensures fields { IfOk result (λ p. all_fields p ≡ 1) }
+    ensures methods { IfOk result (λ p. all_methods p ≡ 2) }
 {
-    assert!(rt; prog.files() < 8);
-    assert!(rt; prog.names() < 1000);
-    assert!(rt; prog.all_types() < 1000);
-    assert!(rt; prog.classes() < 1000);
-    assert!(rt; prog.all_fields() < 1000);
-    assert!(rt; prog.all_methods() < 1000);
-    assert!(rt; names.len() < 1000);
-    assert!(rt; types.len() < 1000);
-    prog.add_file(names, types, classes)
-}
-
-// LA;, f and I with the types LA; and I, then LB; with the types LA; and LB;: the second file shares a name and a type.
-fn two_files(rt: &impl Abort, alloc: Global) -> Result<Prog, AllocError> {
     let mut prog = Prog::new(alloc);
     let mut names = Texts::new(alloc);
     names.push(text_of(alloc, b"LA;")?)?;
     names.push(text_of(alloc, b"f")?)?;
     names.push(text_of(alloc, b"I")?)?;
     let types = Names::from_slice(alloc, &[NameNo(0), NameNo(2)])?;
-    add(
-        rt,
-        &mut prog,
-        names,
-        types,
-        classes(alloc, FileNo(0), NameNo(0))?,
-    )?;
+    prog.add_file(names, types, classes(alloc, FileNo(0), NameNo(0))?)?;
+    Ok(prog)
+}
+
+// That file, and LB; with the types LA; and LB;: the second file shares a name and a type.
+fn two_files(alloc: Global) -> Result<Prog, AllocError> {
+    let mut prog = first_file(alloc)?;
     let mut names = Texts::new(alloc);
     names.push(text_of(alloc, b"LB;")?)?;
     let types = Names::from_slice(alloc, &[NameNo(0), NameNo(3)])?;
-    add(
-        rt,
-        &mut prog,
-        names,
-        types,
-        classes(alloc, FileNo(1), NameNo(3))?,
-    )?;
+    prog.add_file(names, types, classes(alloc, FileNo(1), NameNo(3))?)?;
     Ok(prog)
 }
 
 #[test]
 fn finds_names_and_types(rt: HostRuntime) -> Result<(), Fail> {
     let alloc = rt.alloc();
-    let prog = two_files(&rt, alloc)?;
+    let prog = two_files(alloc)?;
     assert_eq!(rt; prog.names(), 4);
     let text = text_of(alloc, b"LB;")?;
     assert!(rt; same_text(prog.name(NameNo(3)).as_slice(), text.as_slice()));
@@ -128,7 +117,7 @@ fn finds_names_and_types(rt: HostRuntime) -> Result<(), Fail> {
 #[test]
 fn keeps_files_apart(rt: HostRuntime) -> Result<(), Fail> {
     let alloc = rt.alloc();
-    let prog = two_files(&rt, alloc)?;
+    let prog = two_files(alloc)?;
     assert_eq!(rt; prog.files(), 2);
     assert_eq!(rt; prog.names_to(FileNo(0)), 3);
     assert_eq!(rt; prog.names_to(FileNo(1)), 4);
@@ -146,7 +135,7 @@ fn keeps_files_apart(rt: HostRuntime) -> Result<(), Fail> {
 #[test]
 fn numbers_classes_and_members(rt: HostRuntime) -> Result<(), Fail> {
     let alloc = rt.alloc();
-    let prog = two_files(&rt, alloc)?;
+    let prog = two_files(alloc)?;
     assert_eq!(rt; prog.classes(), 2);
     let class = prog.class(ClassNo(1));
     assert_eq!(rt; class.name, NameNo(3));
@@ -181,5 +170,59 @@ fn lists_keep_their_order(rt: HostRuntime) -> Result<(), Fail> {
     assert!(rt; !list.is_empty());
     let again = Units::from_vec(list.into_vec());
     assert!(rt; same_text(again.as_slice(), [1, 2, 3, 4].as_slice()));
+    Ok(())
+}
+
+#[test]
+fn finds_texts_by_their_order(rt: HostRuntime) -> Result<(), Fail> {
+    let alloc = rt.alloc();
+    let names = [
+        text_of(alloc, b"LZ;")?,
+        text_of(alloc, b"run")?,
+        text_of(alloc, b"LB;")?,
+        text_of(alloc, b"")?,
+        text_of(alloc, b"ru")?,
+        text_of(alloc, b"LA;")?,
+    ];
+    let order = order_of(alloc, &names, 1)?;
+    assert_eq!(rt; order.as_slice(), [3, 5, 2, 4, 1].as_slice());
+    assert_eq!(rt; find_in(&names, &order, names[1].as_slice()), Some(1));
+    assert_eq!(rt; find_in(&names, &order, names[2].as_slice()), Some(2));
+    assert_eq!(rt; find_in(&names, &order, names[3].as_slice()), Some(3));
+    assert_eq!(rt; find_in(&names, &order, names[4].as_slice()), Some(4));
+    assert_eq!(rt; find_in(&names, &order, names[5].as_slice()), Some(5));
+    assert_eq!(rt; find_in(&names, &order, names[0].as_slice()), None);
+    let all = order_of(alloc, &names, 0)?;
+    assert_eq!(rt; all.as_slice(), [3, 5, 2, 0, 4, 1].as_slice());
+    let none = order_of(alloc, &names, 6)?;
+    assert_eq!(rt; find_in(&names, &none, names[1].as_slice()), None);
+    Ok(())
+}
+
+fn orders(alloc: Global, names: &[Units], at: usize) -> Result<Vec<Listed<u32>>, AllocError>
+    requires within { at ≤ length names.now }
+    requires small { length names.now < 2 ^ 32 }
+    ensures { IfOk result (λ list. AreOrders names.now 0 list.items) }
+{
+    let first = order_of(alloc, &names[..at], 0)?;
+    let second = order_of(alloc, names, at)?;
+    let mut list = Vec::new(alloc);
+    list.push(Listed::from_vec(first))?;
+    list.push(Listed::from_vec(second))?;
+    Ok(list)
+}
+
+#[test]
+fn finds_texts_of_two_files(rt: HostRuntime) -> Result<(), Fail> {
+    let alloc = rt.alloc();
+    let names = [
+        text_of(alloc, b"run")?,
+        text_of(alloc, b"LB;")?,
+        text_of(alloc, b"LA;")?,
+    ];
+    let list = orders(alloc, &names, 2)?;
+    assert_eq!(rt; find_among(&names, &list, names[0].as_slice()), Some(0));
+    assert_eq!(rt; find_among(&names, &list, names[2].as_slice()), Some(2));
+    assert_eq!(rt; find_among(&names, &list, [7].as_slice()), None);
     Ok(())
 }

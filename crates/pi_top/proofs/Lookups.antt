@@ -15,7 +15,8 @@ use Rattle.pi_model.specs.Program.{same_name, method_count, method_number}
 use Rattle.pi_model.specs.Search.{same_names, field_from, in_class, class_of, own_field, find_field, find_method, field_no_of, method_of, method_at}
 use Rattle.pi_model.proofs.Members.{member_back}
 use Rattle.pi_format.specs.Core.{core_names, object_name, out_name, print_name, int_name, void_name}
-use Rattle.pi_format.specs.Small.{is_print, names_own, parent_fits, field_fits, all_distinct, same_field, methods_fit, class_fits, small_chain}
+use Rattle.pi_model.specs.Distinct.{all_distinct}
+use Rattle.pi_format.specs.Small.{is_print, names_own, parent_fits, field_fits, same_field, methods_fit, class_fits, small_chain}
 use Rattle.pi_machine.specs.Natives.{PrintInt, is_print_int}
 use Rattle.pi_machine.specs.Rows.{code_in, code_of, native_at}
 use Rattle.pi_top.specs.Row.{place_of}

@@ -12,7 +12,8 @@ use Rattle.pi_model.specs.Values.{Word}
 use Rattle.pi_model.specs.Sizes.{sized, width_of, units_of}
 use Rattle.pi_model.specs.Texts.{same_text, is_named, name_of}
 use Rattle.pi_format.specs.Core.{core_names, int_name, object_name, out_name}
-use Rattle.pi_format.specs.Small.{small_chain, field_fits, is_static, all_distinct, has_text}
+use Rattle.pi_model.specs.Distinct.{all_distinct}
+use Rattle.pi_format.specs.Small.{small_chain, field_fits, is_static, has_text}
 use Rattle.pi_model.specs.declared.numbers.NameNo.{NameNo}
 use Rattle.pi_top.proofs.Lookups.{ClassIs}
 use Rattle.pi_machine.specs.Start.{start_names, first_status, first_value, first_values, argument_bytes, is_main, main_in, main_of}

@@ -11,7 +11,8 @@ use Rattle.pi_model.specs.Program.{Program, method_number}
 use Rattle.pi_model.specs.Search.{class_at}
 use Rattle.pi_model.specs.Texts.{same_text}
 use Rattle.pi_format.specs.Core.{core_names, main_name, clinit_name}
-use Rattle.pi_format.specs.Small.{small_chain, class_fits, has_text, all_distinct, line_fits, ends_in_return}
+use Rattle.pi_model.specs.Distinct.{all_distinct}
+use Rattle.pi_format.specs.Small.{small_chain, class_fits, has_text, line_fits, ends_in_return}
 use Rattle.pi_format.specs.Shape.{laid_from, code_laid, code_small, method_laid, method_small, has_no_value, IsSmall}
 use Rattle.pi_machine.specs.State.{Made}
 use Rattle.pi_machine.specs.Start.{start_state, argument_bytes, argument_objects}

@@ -4,7 +4,7 @@ use Rattle.pi_format.specs.Core.{core_names}
 use Rattle.pi_format.specs.Names.{Numbered}
 use Rattle.pi_format.specs.Tables.{table_at, class_defs}
 use Rattle.pi_format.specs.Small.{class_fits, has_text, small_chain}
-use Rattle.pi_dex.proofs.Chains.{judged_class, holds_second}
+use Rattle.pi_dex.proofs.Chains.{judged_class, holds_second, fits_behind}
 use Rattle.pi_dex.proofs.chain.Goals as goal
 
 pub returns-then-not-is_small : goal.returns-then-not-is_small
@@ -18,7 +18,12 @@ returns-then-not-is_small c =
 pub with_class-requires-clause-fits : goal.with_class-requires-clause-fits
 with_class-requires-clause-fits c =
     let d = c.in_ok-class.class in
-    holds_second (has_text (core_names ++ c.as_slice-2.result.now) d.name c.as_slice-3.result.now) (class_fits d) c.if-not-is_small.ensures
+    fits_behind c.args.file.now c.args.known d _ _ _
+    (c.as_slice.ensures ∙ ap (λ (k : Numbered). k.numbers) c.known.view_is)
+    (ap (λ (k : Numbered). k.new) c.known.view_is)
+    c.in_ok-class.ensures.value
+    (holds_second (has_text (core_names ++ c.as_slice-2.result.now) d.name c.as_slice-3.result.now) (class_fits d) c.if-not-is_small.ensures)
+    c.requires.few c.in_ok-class.ensures.few c.requires.numbers c.requires.distinct
 
 pub returns : goal.returns
 returns c =

@@ -1,5 +1,6 @@
 use Rattle.std.proofs.Common.{◌≡◌, drop}
-use Rattle.pi_format.specs.Small.{all_distinct, same_field}
+use Rattle.pi_model.specs.Distinct.{all_distinct}
+use Rattle.pi_format.specs.Small.{same_field}
 use Rattle.pi_dex.proofs.small.are_distinct.Given as goal
 
 abbrev pub invariant-loop-i : goal.invariant-loop-i

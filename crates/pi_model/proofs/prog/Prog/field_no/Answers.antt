@@ -1,22 +1,35 @@
-use Rattle.std.proofs.Common.{arith}
+use Rattle.std.proofs.Common.{arith, ◌∙◌}
 use Rattle.pi_model.specs.Program.{field_count}
 use Rattle.pi_model.proofs.Members.{below_all, member_back}
+use Rattle.pi_model.proofs.Starts.{some_within, within_starts, start_is}
 use Rattle.pi_model.proofs.prog.Prog.field_no.Goals as goal
+
+pub field_start-requires : goal.field_start-requires
+field_start-requires c =
+    let here = rw (← c.self.view_is) at c.requires in
+    within_starts field_count c.self.inside.classes.items c.self.inside.index.field_starts c.args.c.0 c.self.invariant.index.field_starts (some_within _ _ c.args.c.0 here)
 
 pub overflow_add-result : goal.overflow_add-result
 overflow_add-result c =
     let here = rw (← c.self.view_is) at c.requires in
-    let before = rw c.as_slice.ensures.value at c.fields_of.ensures in
-    omega (arith, below_all field_count c.self.inside.classes.items c.args.c.0 c.args.i here, before)
+    let before = c.field_start.ensures ∙ start_is field_count c.self.inside.classes.items c.self.inside.index.field_starts c.args.c.0 c.self.invariant.index.field_starts (some_within _ _ c.args.c.0 here) in
+    let few = c.self.invariant.program.counted.fields in
+    omega (arith, below_all field_count c.self.inside.classes.items c.args.c.0 c.args.i here, before, few)
+
+pub returns-clause-number : goal.returns-clause-number
+returns-clause-number c =
+    let here = rw (← c.self.view_is) at c.requires in
+    let before = c.field_start.ensures ∙ start_is field_count c.self.inside.classes.items c.self.inside.index.field_starts c.args.c.0 c.self.invariant.index.field_starts (some_within _ _ c.args.c.0 here) in
+    rw (← c.self.view_is) (omega (arith, before))
 
 pub returns-clause-member : goal.returns-clause-member
 returns-clause-member c =
     let here = rw (← c.self.view_is) at c.requires in
-    let before = rw c.as_slice.ensures.value at c.fields_of.ensures in
+    let before = c.field_start.ensures ∙ start_is field_count c.self.inside.classes.items c.self.inside.index.field_starts c.args.c.0 c.self.invariant.index.field_starts (some_within _ _ c.args.c.0 here) in
     rw (← c.self.view_is) (member_back field_count c.self.inside.classes.items 0 c.args.c.0 c.args.i _ _ here (omega (arith, before)) (omega arith))
 
 pub returns-clause-below : goal.returns-clause-below
 returns-clause-below c =
     let here = rw (← c.self.view_is) at c.requires in
-    let before = rw c.as_slice.ensures.value at c.fields_of.ensures in
+    let before = c.field_start.ensures ∙ start_is field_count c.self.inside.classes.items c.self.inside.index.field_starts c.args.c.0 c.self.invariant.index.field_starts (some_within _ _ c.args.c.0 here) in
     rw (← c.self.view_is) (omega (arith, below_all field_count c.self.inside.classes.items c.args.c.0 c.args.i here, before))

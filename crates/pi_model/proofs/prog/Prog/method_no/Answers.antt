@@ -1,22 +1,35 @@
-use Rattle.std.proofs.Common.{arith}
+use Rattle.std.proofs.Common.{arith, ◌∙◌}
 use Rattle.pi_model.specs.Program.{method_count}
 use Rattle.pi_model.proofs.Members.{below_all, member_back}
+use Rattle.pi_model.proofs.Starts.{some_within, within_starts, start_is}
 use Rattle.pi_model.proofs.prog.Prog.method_no.Goals as goal
+
+pub method_start-requires : goal.method_start-requires
+method_start-requires c =
+    let here = rw (← c.self.view_is) at c.requires in
+    within_starts method_count c.self.inside.classes.items c.self.inside.index.method_starts c.args.c.0 c.self.invariant.index.method_starts (some_within _ _ c.args.c.0 here)
 
 pub overflow_add-result : goal.overflow_add-result
 overflow_add-result c =
     let here = rw (← c.self.view_is) at c.requires in
-    let before = rw c.as_slice.ensures.value at c.methods_of.ensures in
-    omega (arith, below_all method_count c.self.inside.classes.items c.args.c.0 c.args.i here, before)
+    let before = c.method_start.ensures ∙ start_is method_count c.self.inside.classes.items c.self.inside.index.method_starts c.args.c.0 c.self.invariant.index.method_starts (some_within _ _ c.args.c.0 here) in
+    let few = c.self.invariant.program.counted.methods in
+    omega (arith, below_all method_count c.self.inside.classes.items c.args.c.0 c.args.i here, before, few)
+
+pub returns-clause-number : goal.returns-clause-number
+returns-clause-number c =
+    let here = rw (← c.self.view_is) at c.requires in
+    let before = c.method_start.ensures ∙ start_is method_count c.self.inside.classes.items c.self.inside.index.method_starts c.args.c.0 c.self.invariant.index.method_starts (some_within _ _ c.args.c.0 here) in
+    rw (← c.self.view_is) (omega (arith, before))
 
 pub returns-clause-member : goal.returns-clause-member
 returns-clause-member c =
     let here = rw (← c.self.view_is) at c.requires in
-    let before = rw c.as_slice.ensures.value at c.methods_of.ensures in
+    let before = c.method_start.ensures ∙ start_is method_count c.self.inside.classes.items c.self.inside.index.method_starts c.args.c.0 c.self.invariant.index.method_starts (some_within _ _ c.args.c.0 here) in
     rw (← c.self.view_is) (member_back method_count c.self.inside.classes.items 0 c.args.c.0 c.args.i _ _ here (omega (arith, before)) (omega arith))
 
 pub returns-clause-below : goal.returns-clause-below
 returns-clause-below c =
     let here = rw (← c.self.view_is) at c.requires in
-    let before = rw c.as_slice.ensures.value at c.methods_of.ensures in
+    let before = c.method_start.ensures ∙ start_is method_count c.self.inside.classes.items c.self.inside.index.method_starts c.args.c.0 c.self.invariant.index.method_starts (some_within _ _ c.args.c.0 here) in
     rw (← c.self.view_is) (omega (arith, below_all method_count c.self.inside.classes.items c.args.c.0 c.args.i here, before))
