@@ -1,3 +1,5 @@
+pub mod Complete
+pub mod Exact
 pub mod Laid
 pub mod Lists
 pub mod Lookups

@@ -8,7 +8,8 @@ use Rattle.pi_base.specs.Outside.{grown}
 use Rattle.pi_model.specs.Program.{Program}
 use Rattle.pi_format.specs.Small.{small_program}
 use Rattle.pi_machine.specs.Start.{main_of}
-use Rattle.pi_machine.specs.Ends.{Finish, EndsWith}
+use Rattle.pi_machine.specs.Ends as ends
+use Rattle.pi_machine.specs.Ends.{End, Finish, EndsWith}
 use Rattle.pi_duty.specs.Words.{LazyWords}
 use Rattle.pi_duty.specs.Lines.{usage_line, missing_line, read_fault_line, made_line, too_large_line}
 use Rattle.pi_duty.specs.Duty.{Contents, Owed, RunOwes, FileOwes, LengthOwes, LazyOwes, ended, end_status, end_lines, lazy_setting, most_bytes, refused}
@@ -18,7 +19,7 @@ use Rattle.pi_dex.specs.declared.fault.SmallFault.{SmallFault}
 use Rattle.pi_dex.specs.declared.fault.SmallFault.TheVariants.{OutOfMemory, NotSmall}
 use Rattle.pi_top.specs.declared.outcome.Outcome.{Outcome}
 use Rattle.pi_top.specs.declared.outcome.Outcome.TheVariants.{Usage, Missing, ReadFault, TooLarge, Memory, NotBuilt, Ran}
-use Rattle.pi_top.specs.Answer.{RunEnds, AnswersRun, OwesOver, Answered, is_owed}
+use Rattle.pi_top.specs.Answer.{RunEnds, AnswersRun, OwesOver, Answered, ends_run, is_owed}
 use Rattle.pi_dex.specs.Says.{Says}
 use Rattle.pi_top.specs.Outcome.{Gives, EndGives, FileGives, OutcomeGives, status_of, lines_of}
 
@@ -60,6 +61,14 @@ long_owes l file long =
     let e : nat_lt most_bytes (length file) ≡ true = grind (arith, nat_tests) in
     long_length _ l file e
 
+-- a run ends with one of its statuses
+run_status : (end : End) → IsTrue (ends_run (end_status end))
+run_status ends.Returned = refl
+run_status (ends.Uncaught c message) = refl
+run_status ends.StepLimit = refl
+run_status ends.HeapLimit = refl
+run_status ends.FrameLimit = refl
+
 -- what the answer of a run says of what is owed
 end_gives : (owes : Owed → Type 0) (p : Program) (end : RunEnd) (f : Finish) (before now : Option (List ℕ)) → owes (ended p f) → AnswersRun end f before now → EndGives owes end before now
 end_gives owes p (Returned n) f before now due a = record {
@@ -76,7 +85,7 @@ end_gives owes p (Limited n) f before now due a = record {
   told = ap (λ e. end_lines p e ++ made_line f.steps) a.0 ∙ ap (λ k. codes "limit steps\n" ++ made_line k) a.1;
   written = a.2;
 }
-end_gives owes p OutFault f before now due a = record { owed = ended p f; due = due; begun = a }
+end_gives owes p OutFault f before now due a = record { owed = ended p f; due = due; of_run = run_status f.end; begun = a }
 
 pub run_gives : (name main text file : List ℕ) (steps : ℕ) (p : Program) (end : RunEnd) (before now : Option (List ℕ)) → text ≡ main → length file ≤ most_bytes → small_program text file ≡ Some p → ((f : Finish) × (RunEnds p text steps f × AnswersRun end f before now)) → EndGives (LazyOwes (record { file = name; main = main; steps = steps }) (Some file)) end before now
 run_gives name main text file steps p end before now is short small ends =
@@ -125,7 +134,7 @@ large_over false contents l h =
 end_map : (P Q : Owed → Type 0) (end : RunEnd) (before now : Option (List ℕ)) → ((o : Owed) → P o → Q o) → EndGives P end before now → EndGives Q end before now
 end_map P Q (Returned n) before now k g = record { owed = g.owed; due = k g.owed g.due; has_status = g.has_status; told = g.told; written = g.written }
 end_map P Q (Limited n) before now k g = record { owed = g.owed; due = k g.owed g.due; has_status = g.has_status; told = g.told; written = g.written }
-end_map P Q OutFault before now k g = record { owed = g.owed; due = k g.owed g.due; begun = g.begun }
+end_map P Q OutFault before now k g = record { owed = g.owed; due = k g.owed g.due; of_run = g.of_run; begun = g.begun }
 
 pub file_over : (shown : Bool) (contents : Contents) (l : LazyWords) (file text : List ℕ) (r : Result RunEnd SmallFault) (before now : Option (List ℕ)) → text ≡ file → (IsTrue shown → contents l.file ≡ Some file) → FileGives (LazyOwes l (Some text)) r before now → FileGives (OwesOver shown contents (Some l)) r before now
 file_over shown contents l file text (Ok end) before now same h g =

@@ -1,16 +1,17 @@
 -- What the top call answers, beside what its words owe.
-use Rattle.std.specs.Prelude.{◌≡◌, ℕ, List, [], Option, Some, Result, Ok, Err, Bool, true, false, IsTrue, ◌⊎◌, ◌||◌, ◌==◌}
+use Rattle.std.specs.Prelude.{◌≡◌, ℕ, ◌≤◌, List, [], length, Option, Some, Result, Ok, Err, Bool, true, false, IsTrue, ◌⊎◌, ◌||◌, ◌&&◌, ◌==◌}
 use Rattle.pi_base.specs.declared.status.Status.{Status}
 use Rattle.pi_base.specs.declared.status.Status.TheVariants as statuses
-use Rattle.pi_base.specs.declared.status.Status.TheVariants.{Done, Usage, Missing, ReadFault, Steps, TooLarge, Memory, NotBuilt}
+use Rattle.pi_base.specs.declared.status.Status.TheVariants.{Done, Uncaught, Usage, Missing, ReadFault, Steps, Heap, Frames, TooLarge, Memory, NotBuilt}
 use Rattle.pi_base.specs.Status.{code_of}
 use Rattle.pi_base.specs.Outside.{Rose, grown, Begins}
 use Rattle.pi_model.specs.Program.{Program}
+use Rattle.pi_format.specs.Small.{small_program}
 use Rattle.pi_machine.specs.Start.{main_of}
 use Rattle.pi_machine.specs.Ends as ends
 use Rattle.pi_machine.specs.Ends.{End, Finish, EndsWith}
 use Rattle.pi_duty.specs.Words.{LazyWords}
-use Rattle.pi_duty.specs.Duty.{Contents, Owed, CommandOwes, lazy_setting}
+use Rattle.pi_duty.specs.Duty.{Contents, Owed, CommandOwes, Owes, end_status, lazy_setting, most_bytes}
 use Rattle.pi_top.specs.declared.plain.run.RunEnd.{RunEnd}
 use Rattle.pi_top.specs.declared.plain.run.RunEnd.TheVariants.{Returned, Limited, OutFault}
 
@@ -78,8 +79,46 @@ pub record Answered (Owing : Owed → Type 0) (status : Status) (before now : Op
   pub written : now ≡ grown before owed.output
   pub told : Tells owed.lines
 
--- of the output of something that is owed a front was written
+-- the statuses with which a run ends
+abbrev pub ends_run : Status → Bool
+ends_run Done = true
+ends_run Uncaught = true
+ends_run Steps = true
+ends_run Heap = true
+ends_run Frames = true
+ends_run _ = false
+
+-- a run is owed, and a front of its output was written
 pub record Cuts (Owing : Owed → Type 0) (before now : Option (List ℕ)) : Type 0 where
   pub owed : Owed
   pub due : Owing owed
+  pub of_run : IsTrue (ends_run owed.status)
   pub begun : Begins owed.output before now
+
+-- the words are a lazy run's, over a store that shows the file that they name, which is short enough to be read and is
+-- small for the main class
+pub record IsSmallCall (shown : Bool) (contents : Contents) (command : Option LazyWords) : Type 0 where
+  pub shows : IsTrue shown
+  pub words : LazyWords
+  pub valid : command ≡ Some words
+  pub file : List ℕ
+  pub there : contents words.file ≡ Some file
+  pub within : length file ≤ most_bytes
+  pub program : Program
+  pub small : small_program words.main file ≡ Some program
+
+-- the machine ends the program's run, with a return or at the limit on steps, and the status says which
+pub record EndsAsRun (p : Program) (main : List ℕ) (steps : ℕ) (status : Status) : Type 0 where
+  pub finish : Finish
+  pub run : RunEnds p main steps finish
+  pub status_is : status ≡ end_status finish.end
+  pub done_or_steps : IsTrue (is_status status Done || is_status status Steps)
+
+-- the status is the one that is owed, but for a read fault, want of memory, or a fault of the output in a run
+abbrev pub is_as_owed : Owed → Status → Bool
+is_as_owed o status =
+    is_status status ReadFault || (is_status status Memory || ((is_status status statuses.OutFault && ends_run o.status) || is_status status o.status))
+
+-- so it is of whatever the words owe over a store of these contents, where it shows them
+abbrev pub IsExact : Bool → Contents → List (List ℕ) → Status → Type 0
+IsExact shown contents words status = IsTrue shown → (o : Owed) → Owes words contents o → IsTrue (is_as_owed o status)

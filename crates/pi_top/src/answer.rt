@@ -1,10 +1,10 @@
 // The top call. docs/commands.md states the commands.
-ghost use Rattle.std.specs.Prelude.{◌≡◌, ◌↔◌, ◌≤◌, map, length, string_bytes, Some, None, IsTrue, IsSomeAnd, List, ℕ, false};
-ghost use Rattle.pi_base.specs.Outside.{Counts};
+ghost use Rattle.std.specs.Prelude.{◌≡◌, ◌⊎◌, ◌↔◌, ◌≤◌, map, length, string_bytes, Some, None, IsTrue, IsSomeAnd, List, ℕ, false};
+ghost use Rattle.pi_base.specs.Outside.{Counts, Rose};
 ghost use Rattle.pi_duty.specs.Words.{lazy_words};
 ghost use Rattle.pi_duty.specs.Lines.{memory_line, out_fault_line, read_fault_line};
 ghost use Rattle.pi_duty.specs.Duty.{LazyOwes};
-ghost use Rattle.pi_top.specs.Answer.{Answered, Cuts, OwesOver, Told, ends_in_out_fault, is_owed, is_status, may_come};
+ghost use Rattle.pi_top.specs.Answer.{Answered, Cuts, EndsAsRun, IsExact, IsSmallCall, OwesOver, Told, ends_in_out_fault, is_owed, is_status, may_come};
 ghost use Rattle.pi_top.specs.Outcome.{FileGives, OutcomeGives, status_of};
 
 use crate::command::{LazyCall, read_words};
@@ -14,6 +14,7 @@ use crate::plain::run_small;
 use pi_base::outside::{Sink, Store, StoreError};
 use pi_base::status::Status;
 use pi_dex::{SmallFault, read_small};
+use pi_duty::owes_once;
 use pi_format::small_shape;
 use std::alloc::Global;
 
@@ -34,7 +35,13 @@ pub fn tool<S: Store, O: Sink, E: Sink>(
     ensures usage { (result ≡ Status.Usage) ↔ (lazy_words (map string_bytes words.now.items) ≡ None) }
     ensures comes { IsTrue (may_come result) }
 
-    // where it is not met, what was written is a front of what is owed
+    // whatever the words owe over contents that are shown, the status is its own, unless a fault or want of memory stops it
+    ensures exact { IsExact (S.shown store.old) (S.contents store.old) (map string_bytes words.now.items) result }
+
+    // a small file whose words are right is run, unless a fault rose or memory was wanting
+    ensures complete { (call : IsSmallCall (S.shown store.old) (S.contents store.old) (lazy_words (map string_bytes words.now.items))) → ¬ Rose (S.read_faults store.old) (S.read_faults store.new) → ¬ Rose (O.faults out.old) (O.faults out.new) → (result ≡ Status.Memory) ⊎ EndsAsRun call.program call.words.main call.words.steps result }
+
+    // where it is not met, what was written is a front of the output of the run that is owed
     ensures out_fault { result ≡ Status.OutFault → Cuts (OwesOver (S.shown store.old) (S.contents store.old) (lazy_words (map string_bytes words.now.items))) (O.bytes out.old) (O.bytes out.new) }
     ensures read_fault_silent { result ≡ Status.ReadFault → O.bytes out.new ≡ O.bytes out.old }
     ensures memory_silent { result ≡ Status.Memory → O.bytes out.new ≡ O.bytes out.old }
@@ -54,6 +61,7 @@ pub fn tool<S: Store, O: Sink, E: Sink>(
     ensures shown_stands { S.shown store.new ≡ S.shown store.old }
     ensures faithful_stands { S.faithful store.new ≡ S.faithful store.old }
 {
+    owes_once();
     let outcome = answer(alloc, words, store, out);
     outcome.tell(err);
     outcome.status()
