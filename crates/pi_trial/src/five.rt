@@ -13,7 +13,7 @@ use std::test::Fail;
 
 /// The strings, by their places in the table.
 #[derive(Clone, Copy)]
-enum Text {
+pub(crate) enum Text {
     Clinit,
     Int,
     Own,
@@ -45,7 +45,7 @@ const TEXTS: [&str; 12] = [
 
 /// The types, by their places in the table.
 #[derive(Clone, Copy)]
-enum Type {
+pub(crate) enum Type {
     Int,
     Own,
     Object,
@@ -56,14 +56,14 @@ enum Type {
 
 /// The prototypes: what is taken, where the result is void.
 #[derive(Clone, Copy)]
-enum Proto {
+pub(crate) enum Proto {
     OfNone,
     OfInt,
     OfStrings,
 }
 
 #[derive(Clone, Copy)]
-enum Method {
+pub(crate) enum Method {
     Clinit,
     Main,
     Print,
@@ -81,17 +81,17 @@ const CONSTRUCTOR: u32 = 0x10000;
 const NO_INDEX: u32 = 0xffff_ffff;
 
 /// Where the tables begin, each behind the one before it, and the data behind them.
-const STRING_IDS: u32 = 112;
+pub(crate) const STRING_IDS: u32 = 112;
 
-const TYPE_IDS: u32 = STRING_IDS + 4 * 12;
+pub(crate) const TYPE_IDS: u32 = STRING_IDS + 4 * 12;
 
-const PROTO_IDS: u32 = TYPE_IDS + 4 * 6;
+pub(crate) const PROTO_IDS: u32 = TYPE_IDS + 4 * 6;
 
-const FIELD_IDS: u32 = PROTO_IDS + 12 * 3;
+pub(crate) const FIELD_IDS: u32 = PROTO_IDS + 12 * 3;
 
-const METHOD_IDS: u32 = FIELD_IDS + 8;
+pub(crate) const METHOD_IDS: u32 = FIELD_IDS + 8;
 
-const CLASS_DEFS: u32 = METHOD_IDS + 8 * 3;
+pub(crate) const CLASS_DEFS: u32 = METHOD_IDS + 8 * 3;
 
 const DATA: u32 = CLASS_DEFS + 32;
 
@@ -127,14 +127,15 @@ struct Registers {
 
 /// Where the parts of the data stand.
 #[derive(Drop)]
-struct Places {
-    first_code: u32,
-    int_list: u32,
-    strings_list: u32,
-    texts: Vec<u32>,
+pub(crate) struct Places {
+    pub(crate) clinit: u32,
+    pub(crate) main: u32,
+    pub(crate) int_list: u32,
+    pub(crate) strings_list: u32,
+    pub(crate) texts: Vec<u32>,
     first_text: u32,
-    class_data: u32,
-    map: u32,
+    pub(crate) class_data: u32,
+    pub(crate) map: u32,
 }
 
 fn put_code(
@@ -218,7 +219,7 @@ fn put_map(data: &mut Part, places: &Places) -> Result<(), Fail> {
         (0x0004, 1, FIELD_IDS),
         (0x0005, 3, METHOD_IDS),
         (0x0006, 1, CLASS_DEFS),
-        (0x2001, 2, places.first_code),
+        (0x2001, 2, places.clinit),
         (0x1001, 2, places.int_list),
         (0x2002, 12, places.first_text),
         (0x2000, 1, places.class_data),
@@ -241,7 +242,8 @@ fn put_data(alloc: Global, data: &mut Part) -> Result<Places, Fail> {
     let texts = put_texts(alloc, data)?;
     let class_data = put_class_data(data, clinit, main)?;
     let places = Places {
-        first_code: clinit,
+        clinit,
+        main,
         int_list,
         strings_list,
         texts,
@@ -320,6 +322,11 @@ fn signed(alloc: Global) -> Result<Part, Fail> {
     put_class(&mut part, places.class_data)?;
     part.put(data.bytes())?;
     Ok(part)
+}
+
+/// Where the parts of the file's data stand.
+pub(crate) fn places_of(alloc: Global) -> Result<Places, Fail> {
+    put_data(alloc, &mut Part::new(alloc, DATA))
 }
 
 /// The file.

@@ -5,16 +5,83 @@ use pi_base::mem_store::MemStore;
 use pi_base::status::Status;
 use pi_top::tool;
 use std::alloc::{AllocError, Global};
+use std::process::Abort;
 use std::test::Fail;
 
 /// A call that ends well.
-const WHOLE_RUN: &str = "lazy five.dex LT; 11";
+const WHOLE_RUN: [&str; 4] = ["lazy", "five.dex", "LT;", "11"];
 
-/// The words of a line, which spaces part.
-fn words_of(alloc: Global, line: &str) -> Result<Vec<String>, AllocError> {
+/// A call whose last step prints, and that tells two lines.
+const LIMITED_RUN: [&str; 4] = ["lazy", "five.dex", "LT;", "10"];
+
+const LIMITED_LINES: &str = "limit steps\nmade 10 steps\n";
+
+/// What a call answers: the number of its status, and what is on the two sinks.
+pub(crate) type Answer = (u8, &'static str, &'static str);
+
+const USAGE: Answer = (2, "", "usage\n");
+
+/// Words that are no command.
+const NO_COMMANDS: [&[&str]; 16] = [
+    &[],
+    &[""],
+    &["--help"],
+    &["lazy"],
+    &["lazy", "five.dex"],
+    &["lazy", "five.dex", "LT;"],
+    &["lazy", "five.dex", "LT;", "11", "11"],
+    &["eager", "five.dex", "LT;", "11"],
+    &["Lazy", "five.dex", "LT;", "11"],
+    &["", "five.dex", "LT;", "11"],
+    &["--help", "five.dex", "LT;", "11"],
+    &["lazy", "-x", "LT;", "11"],
+    &["lazy", "-", "LT;", "11"],
+    &["lazy", "-five.dex", "LT;", "11"],
+    &["lazy", "five.dex", "-LT;", "11"],
+    &["five.dex", "LT;", "11", "lazy"],
+];
+
+/// Limits on steps, and the answers under them.
+const LIMITS: [(&str, Answer); 20] = [
+    ("0", (13, "", "limit steps\nmade 0 steps\n")),
+    ("7", (13, "", "limit steps\nmade 7 steps\n")),
+    ("9", (13, "", "limit steps\nmade 9 steps\n")),
+    ("10", (13, "5\n", LIMITED_LINES)),
+    ("11", (0, "5\n", "made 11 steps\n")),
+    ("12", (0, "5\n", "made 11 steps\n")),
+    ("1000000000000", (0, "5\n", "made 11 steps\n")),
+    ("1000000000001", USAGE),
+    ("18446744073709551627", USAGE),
+    ("99999999999999999999999", USAGE),
+    ("01", USAGE),
+    ("011", USAGE),
+    ("00", USAGE),
+    ("+1", USAGE),
+    ("-1", USAGE),
+    ("1 ", USAGE),
+    ("1_1", USAGE),
+    ("0x11", USAGE),
+    ("", USAGE),
+    ("\u{661}\u{661}", USAGE),
+];
+
+/// Names of files and of main classes, and the answers over them.
+const NAMES: [(&str, &str, Answer); 9] = [
+    ("five.dex", "LT;", (0, "5\n", "made 11 steps\n")),
+    ("other.dex", "LT;", (3, "", "missing other.dex\n")),
+    ("@five.dex", "LT;", (3, "", "missing @five.dex\n")),
+    ("five-.dex", "LT;", (3, "", "missing five-.dex\n")),
+    ("FIVE.DEX", "LT;", (3, "", "missing FIVE.DEX\n")),
+    ("", "LT;", (3, "", "missing \n")),
+    ("five.dex", "LU;", (19, "", "not built\n")),
+    ("five.dex", "T", (19, "", "not built\n")),
+    ("five.dex", "", (19, "", "not built\n")),
+];
+
+fn words_of(alloc: Global, texts: &[&str]) -> Result<Vec<String>, AllocError> {
     let mut words = Vec::new(alloc);
-    for word in line.split_whitespace() {
-        words.push(String::from_str(alloc, word)?)?;
+    for text in texts {
+        words.push(String::from_str(alloc, text)?)?;
     }
     Ok(words)
 }
@@ -26,6 +93,11 @@ fn store_of(alloc: Global, fails: &[u64]) -> Result<MemStore, Fail> {
     Ok(store)
 }
 
+/// A sink that has room for all that a call here writes, and fails the calls with these numbers.
+fn sink_of(alloc: Global, fails: &[u64]) -> Result<MemSink, AllocError> {
+    MemSink::new(alloc, 99, fails)
+}
+
 /// The two sinks of a call, and how it ended.
 #[derive(Drop)]
 struct Ended {
@@ -34,86 +106,201 @@ struct Ended {
     err: MemSink,
 }
 
-/// Calls the tool with the words of a line, and with sinks that fail the calls with these numbers.
+/// Calls the tool with these words, a store and two sinks.
 fn call(
     alloc: Global,
-    line: &str,
+    words: &[&str],
     store: &mut MemStore,
-    out_fails: &[u64],
-    err_fails: &[u64],
+    mut out: MemSink,
+    mut err: MemSink,
 ) -> Result<Ended, Fail> {
-    let words = words_of(alloc, line)?;
-    let mut out = MemSink::new(alloc, 99, out_fails)?;
-    let mut err = MemSink::new(alloc, 99, err_fails)?;
+    let words = words_of(alloc, words)?;
     let status = tool(alloc, &words, store, &mut out, &mut err);
     Ok(Ended { status, out, err })
 }
 
+/// Calls the tool with sinks that take all, and looks at the whole answer.
+pub(crate) fn check(
+    rt: &impl Abort,
+    alloc: Global,
+    words: &[&str],
+    store: &mut MemStore,
+    answer: Answer,
+) -> Result<(), Fail> {
+    let (code, out, err) = answer;
+    let ended = call(
+        alloc,
+        words,
+        store,
+        sink_of(alloc, &[])?,
+        sink_of(alloc, &[])?,
+    )?;
+    assert_eq!(rt; ended.status.code(), code, "at {words:?}");
+    assert_eq!(rt; ended.out.bytes(), out.as_bytes(), "at {words:?}");
+    assert_eq!(rt; ended.err.bytes(), err.as_bytes(), "at {words:?}");
+    Ok(())
+}
+
 #[test]
-fn commands_answer(rt: HostRuntime) -> Result<(), Fail> {
+fn words_that_are_no_command_are_told(rt: HostRuntime) -> Result<(), Fail> {
     let alloc = rt.alloc();
     let mut store = store_of(alloc, &[])?;
-    let rows = [
-        (WHOLE_RUN, 0, "5\n", "made 11 steps\n"),
-        (
-            "lazy five.dex LT; 1000000000000",
-            0,
-            "5\n",
-            "made 11 steps\n",
-        ),
-        (
-            "lazy five.dex LT; 10",
-            13,
-            "5\n",
-            "limit steps\nmade 10 steps\n",
-        ),
-        ("lazy five.dex LT; 9", 13, "", "limit steps\nmade 9 steps\n"),
-        ("lazy five.dex LT; 0", 13, "", "limit steps\nmade 0 steps\n"),
-        ("lazy five.dex LT; 1000000000001", 2, "", "usage\n"),
-        ("lazy five.dex LT; 011", 2, "", "usage\n"),
-        ("lazy five.dex LT; +1", 2, "", "usage\n"),
-        (
-            "lazy five.dex LT; 99999999999999999999999",
-            2,
-            "",
-            "usage\n",
-        ),
-        ("lazy five.dex LT;", 2, "", "usage\n"),
-        ("lazy five.dex -LT; 11", 2, "", "usage\n"),
-        ("lazy -five.dex LT; 11", 2, "", "usage\n"),
-        ("eager five.dex LT; 11", 2, "", "usage\n"),
-        ("", 2, "", "usage\n"),
-        ("lazy other.dex LT; 11", 3, "", "missing other.dex\n"),
-        ("lazy five.dex LU; 11", 19, "", "not built\n"),
-        ("lazy five.dex T 11", 19, "", "not built\n"),
-    ];
-    for (line, code, out, err) in rows {
-        let ended = call(alloc, line, &mut store, &[], &[])?;
-        assert_eq!(rt; ended.status.code(), code, "at {line}");
-        assert_eq!(rt; ended.out.bytes(), out.as_bytes(), "at {line}");
-        assert_eq!(rt; ended.err.bytes(), err.as_bytes(), "at {line}");
+    for words in NO_COMMANDS {
+        check(&rt, alloc, words, &mut store, USAGE)?;
     }
     Ok(())
 }
 
 #[test]
-fn faults_are_told(rt: HostRuntime) -> Result<(), Fail> {
+fn limits_on_steps_are_kept(rt: HostRuntime) -> Result<(), Fail> {
     let alloc = rt.alloc();
-    let mut store = store_of(alloc, &[1])?;
-    let ended = call(alloc, WHOLE_RUN, &mut store, &[], &[])?;
-    assert_eq!(rt; ended.status, Status::ReadFault);
-    assert_eq!(rt; ended.out.bytes(), b"".as_slice());
-    assert_eq!(rt; ended.err.bytes(), b"read fault five.dex\n".as_slice());
+    let mut store = store_of(alloc, &[])?;
+    for (steps, answer) in LIMITS {
+        check(
+            &rt,
+            alloc,
+            &["lazy", "five.dex", "LT;", steps],
+            &mut store,
+            answer,
+        )?;
+    }
+    Ok(())
+}
 
-    let ended = call(alloc, WHOLE_RUN, &mut store, &[1], &[])?;
-    assert_eq!(rt; ended.status, Status::OutFault);
-    assert_eq!(rt; ended.out.bytes(), b"".as_slice());
-    assert_eq!(rt; ended.err.bytes(), b"output fault\n".as_slice());
+#[test]
+fn names_are_taken_as_given(rt: HostRuntime) -> Result<(), Fail> {
+    let alloc = rt.alloc();
+    let mut store = store_of(alloc, &[])?;
+    for (file, main, answer) in NAMES {
+        check(&rt, alloc, &["lazy", file, main, "11"], &mut store, answer)?;
+    }
+    Ok(())
+}
 
-    let ended = call(alloc, WHOLE_RUN, &mut store, &[], &[1])?;
-    assert_eq!(rt; ended.status, Status::Done);
-    assert_eq!(rt; ended.out.bytes(), b"5\n".as_slice());
-    assert_eq!(rt; ended.err.bytes(), b"".as_slice());
+#[test]
+fn store_that_fails_is_told(rt: HostRuntime) -> Result<(), Fail> {
+    let alloc = rt.alloc();
+    let fault = (4, "", "read fault five.dex\n");
+    check(&rt, alloc, &WHOLE_RUN, &mut store_of(alloc, &[1])?, fault)?;
+    let other = ["lazy", "other.dex", "LT;", "11"];
+    let fault = (4, "", "read fault other.dex\n");
+    check(&rt, alloc, &other, &mut store_of(alloc, &[1])?, fault)?;
+    // the file is read once
+    let whole = (0, "5\n", "made 11 steps\n");
+    check(&rt, alloc, &WHOLE_RUN, &mut store_of(alloc, &[2])?, whole)
+}
+
+#[test]
+fn file_past_the_limit_is_too_large(rt: HostRuntime) -> Result<(), Fail> {
+    let alloc = rt.alloc();
+    let mut store = store_of(alloc, &[])?;
+    let most = vec![in alloc; 0u8; 16_777_216]?;
+    store.put(alloc, "most.dex", most.as_slice())?;
+    let more = vec![in alloc; 0u8; 16_777_217]?;
+    store.put(alloc, "more.dex", more.as_slice())?;
+    let most = ["lazy", "most.dex", "LT;", "11"];
+    check(&rt, alloc, &most, &mut store, (19, "", "not built\n"))?;
+    let more = ["lazy", "more.dex", "LT;", "11"];
+    check(
+        &rt,
+        alloc,
+        &more,
+        &mut store,
+        (17, "", "too large more.dex\n"),
+    )
+}
+
+#[test]
+fn out_that_fails_holds_a_front(rt: HostRuntime) -> Result<(), Fail> {
+    let alloc = rt.alloc();
+    let mut store = store_of(alloc, &[])?;
+    // the room of the sink, the call that it fails, and the answer
+    let rows: [(usize, u64, Answer); 5] = [
+        (99, 1, (16, "", "output fault\n")),
+        (0, 0, (16, "", "output fault\n")),
+        (1, 0, (16, "5", "output fault\n")),
+        (1, 2, (16, "5", "output fault\n")),
+        (2, 2, (0, "5\n", "made 11 steps\n")),
+    ];
+    for (room, fails, (code, want, lines)) in rows {
+        let out = MemSink::new(alloc, room, &[fails])?;
+        let ended = call(alloc, &WHOLE_RUN, &mut store, out, sink_of(alloc, &[])?)?;
+        assert_eq!(rt; ended.status.code(), code, "at {room} {fails}");
+        assert_eq!(rt; ended.out.bytes(), want.as_bytes(), "at {room} {fails}");
+        assert_eq!(rt; ended.err.bytes(), lines.as_bytes(), "at {room} {fails}");
+    }
+    Ok(())
+}
+
+#[test]
+fn err_that_fails_a_call_holds_a_front(rt: HostRuntime) -> Result<(), Fail> {
+    let alloc = rt.alloc();
+    let mut store = store_of(alloc, &[])?;
+    // the call that fails, and what was taken before it: the fifth is never made
+    let rows = [
+        (1, ""),
+        (2, "limit steps\n"),
+        (3, "limit steps\nmade "),
+        (4, "limit steps\nmade 10"),
+        (5, LIMITED_LINES),
+    ];
+    for (fails, lines) in rows {
+        let err = sink_of(alloc, &[fails])?;
+        let ended = call(alloc, &LIMITED_RUN, &mut store, sink_of(alloc, &[])?, err)?;
+        assert_eq!(rt; ended.status, Status::Steps, "at {fails}");
+        assert_eq!(rt; ended.out.bytes(), b"5\n".as_slice(), "at {fails}");
+        assert_eq!(rt; ended.err.bytes(), lines.as_bytes(), "at {fails}");
+    }
+    Ok(())
+}
+
+#[test]
+fn err_without_room_holds_a_front(rt: HostRuntime) -> Result<(), Fail> {
+    let alloc = rt.alloc();
+    let mut store = store_of(alloc, &[])?;
+    let lines = LIMITED_LINES.as_bytes();
+    for room in 0..lines.len() + 1 {
+        let err = MemSink::new(alloc, room, &[])?;
+        let ended = call(alloc, &LIMITED_RUN, &mut store, sink_of(alloc, &[])?, err)?;
+        assert_eq!(rt; ended.status, Status::Steps, "at {room}");
+        assert_eq!(rt; ended.out.bytes(), b"5\n".as_slice(), "at {room}");
+        assert_eq!(rt; ended.err.bytes(), &lines[..room], "at {room}");
+    }
+    Ok(())
+}
+
+#[test]
+fn err_that_fails_changes_no_status(rt: HostRuntime) -> Result<(), Fail> {
+    let alloc = rt.alloc();
+    // the words, the call of the store that fails, the call of `out` that fails, the status and what is on `out`
+    let rows: [([&str; 4], u64, u64, Status, &str); 6] = [
+        (WHOLE_RUN, 0, 0, Status::Done, "5\n"),
+        (WHOLE_RUN, 0, 1, Status::OutFault, ""),
+        (WHOLE_RUN, 1, 0, Status::ReadFault, ""),
+        (
+            ["lazy", "other.dex", "LT;", "11"],
+            0,
+            0,
+            Status::Missing,
+            "",
+        ),
+        (
+            ["lazy", "five.dex", "LU;", "11"],
+            0,
+            0,
+            Status::NotBuilt,
+            "",
+        ),
+        (["lazy", "five.dex", "LT;", "+1"], 0, 0, Status::Usage, ""),
+    ];
+    for (words, store_fails, out_fails, status, want) in rows {
+        let mut store = store_of(alloc, &[store_fails])?;
+        let out = sink_of(alloc, &[out_fails])?;
+        let ended = call(alloc, &words, &mut store, out, sink_of(alloc, &[1])?)?;
+        assert_eq!(rt; ended.status, status, "at {words:?}");
+        assert_eq!(rt; ended.out.bytes(), want.as_bytes(), "at {words:?}");
+        assert_eq!(rt; ended.err.bytes(), b"".as_slice(), "at {words:?}");
+    }
     Ok(())
 }
 
@@ -121,12 +308,20 @@ fn faults_are_told(rt: HostRuntime) -> Result<(), Fail> {
 fn second_run_is_as_the_first(rt: HostRuntime) -> Result<(), Fail> {
     let alloc = rt.alloc();
     let mut store = store_of(alloc, &[])?;
-    let first = call(alloc, WHOLE_RUN, &mut store, &[], &[])?;
-    let second = call(alloc, WHOLE_RUN, &mut store, &[], &[])?;
-    assert_eq!(rt; first.status, Status::Done);
-    assert_eq!(rt; second.status, first.status);
-    assert_eq!(rt; second.out.bytes(), first.out.bytes());
-    assert_eq!(rt; second.err.bytes(), first.err.bytes());
+    check(
+        &rt,
+        alloc,
+        &WHOLE_RUN,
+        &mut store,
+        (0, "5\n", "made 11 steps\n"),
+    )?;
+    check(
+        &rt,
+        alloc,
+        &WHOLE_RUN,
+        &mut store,
+        (0, "5\n", "made 11 steps\n"),
+    )?;
     let file = make_file(alloc)?;
     assert_eq!(rt; store.get("five.dex").ok_or("no file")?, file.as_slice());
     Ok(())
