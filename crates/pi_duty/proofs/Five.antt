@@ -10,9 +10,10 @@ use Rattle.pi_format.specs.Ids.{type_at, type_list_at, field_at, proto_at, metho
 use Rattle.pi_format.specs.Instructions.{insn_at, code_at}
 use Rattle.pi_format.specs.ClassData.{field_row, method_row, members_at, class_at}
 use Rattle.pi_format.specs.Small.{small_class, small_program}
-use Rattle.pi_machine.specs.Natives.{is_print_int}
+use Rattle.pi_model.specs.Known.{descriptor_of}
+use Rattle.pi_machine.specs.Natives.{native_table}
 use Rattle.pi_machine.specs.Initialisation.{is_clinit}
-use Rattle.pi_machine.specs.Start.{start_names, is_main}
+use Rattle.pi_machine.specs.Start.{is_main}
 use Rattle.pi_machine.specs.Ends.{Returned, StepLimit}
 use Rattle.pi_duty.specs.Words.{same_word}
 use Rattle.pi_duty.specs.Duty.{Contents, Owes}
@@ -67,9 +68,9 @@ words : List ℕ → List (List ℕ)
 words steps = codes "lazy" ∷ codes "five.dex" ∷ codes "LT;" ∷ steps ∷ []
 
 prints_five : Owes (words (codes "11")) contents (record { status = Done; output = codes "5\n"; lines = codes "made 11 steps\n"; writes = [] })
-unfolding five_bytes contents words small_program small_class header_holds tables_hold table_holds text_at string_at core_names uleb_at type_at type_list_at field_at proto_at method_at insn_at code_at field_row method_row members_at class_at is_print_int is_clinit start_names is_main digits
+unfolding five_bytes contents words small_program small_class header_holds tables_hold table_holds text_at string_at core_names uleb_at type_at type_list_at field_at proto_at method_at insn_at code_at field_row method_row members_at class_at native_table descriptor_of is_clinit is_main digits
 prints_five = (record { end = Returned; output = codes "5\n"; steps = 11 }, ((12, refl), refl))
 
 stops_at_ten : Owes (words (codes "10")) contents (record { status = Steps; output = codes "5\n"; lines = codes "limit steps\nmade 10 steps\n"; writes = [] })
-unfolding five_bytes contents words small_program small_class header_holds tables_hold table_holds text_at string_at core_names uleb_at type_at type_list_at field_at proto_at method_at insn_at code_at field_row method_row members_at class_at is_print_int is_clinit start_names is_main digits
+unfolding five_bytes contents words small_program small_class header_holds tables_hold table_holds text_at string_at core_names uleb_at type_at type_list_at field_at proto_at method_at insn_at code_at field_row method_row members_at class_at native_table descriptor_of is_clinit is_main digits
 stops_at_ten = (record { end = StepLimit; output = codes "5\n"; steps = 10 }, ((11, refl), refl))

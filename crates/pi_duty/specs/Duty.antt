@@ -4,10 +4,8 @@ use Rattle.std.specs.Prelude.{◌≡◌, ℕ, nat_lt, List, [], ◌++◌, length
 use Rattle.pi_base.specs.declared.status.Status.{Status}
 use Rattle.pi_base.specs.declared.status.Status.TheVariants.{Done, Uncaught, Usage, Missing, Steps, Heap, Frames, TooLarge, NotBuilt}
 use Rattle.pi_model.specs.Program.{Program}
-use Rattle.pi_model.specs.Search.{class_at}
-use Rattle.pi_model.specs.Sizes.{units_of}
-use Rattle.pi_model.specs.declared.describe.ClassDesc.{ClassDesc}
 use Rattle.pi_format.specs.Small.{small_program}
+use Rattle.pi_machine.specs.Objects.{class_descriptor}
 use Rattle.pi_machine.specs.Start.{main_of}
 use Rattle.pi_machine.specs.Ends as ends
 use Rattle.pi_machine.specs.Ends.{End, Finish, Setting, EndsWith}
@@ -38,14 +36,6 @@ most_bytes = 16777216
 abbrev pub lazy_setting : ℕ → Setting
 lazy_setting steps = record { held = []; imaged = []; steps = steps; heap = 67108864; frames = 1048576 }
 
--- the descriptor of a class
-abbrev pub descriptor_in : Program → Option ClassDesc → List ℕ
-descriptor_in p None = []
-descriptor_in p (Some d) = units_of p d.name.0
-
-abbrev pub descriptor_of : Program → ℕ → List ℕ
-descriptor_of p c = descriptor_in p (class_at p c)
-
 -- status and first lines by the end of a run. No small program throws, so how a message is printed is left to what comes.
 abbrev pub end_status : End → Status
 end_status ends.Returned = Done
@@ -56,7 +46,7 @@ end_status ends.FrameLimit = Frames
 
 abbrev pub end_lines : Program → End → List ℕ
 end_lines p ends.Returned = []
-end_lines p (ends.Uncaught c message) = uncaught_line (descriptor_of p c)
+end_lines p (ends.Uncaught c message) = uncaught_line (class_descriptor p c)
 end_lines p ends.StepLimit = step_limit_line
 end_lines p ends.HeapLimit = heap_limit_line
 end_lines p ends.FrameLimit = frame_limit_line

@@ -15,9 +15,10 @@ use Rattle.pi_model.specs.declared.insn.How.TheVariants.{Static}
 use Rattle.pi_model.specs.declared.insn.FieldRef.{FieldRef}
 use Rattle.pi_model.specs.declared.insn.MethodRef.{MethodRef}
 use Rattle.pi_model.specs.Program.{Program, no_files, with_file}
-use Rattle.pi_machine.specs.Natives.{is_print_int}
+use Rattle.pi_machine.specs.Natives.{native_table}
+use Rattle.pi_model.specs.Known.{descriptor_of}
 use Rattle.pi_machine.specs.Initialisation.{is_clinit}
-use Rattle.pi_machine.specs.Start.{start_names, is_main, main_of}
+use Rattle.pi_machine.specs.Start.{is_main, main_of}
 use Rattle.pi_machine.specs.Ends.{Setting, Finish, End, Returned, StepLimit, HeapLimit, FrameLimit, EndsWith}
 
 name_no : ℕ → NameNo
@@ -99,45 +100,45 @@ finish end output steps = record { end = end; output = output; steps = steps }
 
 -- it prints 5 and a newline and returns after 11 steps
 prints_five : EndsWith (five 5) (given 11 67108864 1048576) 2 [] (finish Returned (53 ∷ 10 ∷ []) 11)
-unfolding name_no line object_class out_class x_field print_ref clinit_code main_code main_class core_names five given finish is_print_int is_clinit start_names digits
+unfolding name_no line object_class out_class x_field print_ref clinit_code main_code main_class core_names five given finish native_table descriptor_of is_clinit digits
 prints_five = (12, refl)
 
 -- with one step less it has printed all of it and meets the limit
 stops_at_ten : EndsWith (five 5) (given 10 67108864 1048576) 2 [] (finish StepLimit (53 ∷ 10 ∷ []) 10)
-unfolding name_no line object_class out_class x_field print_ref clinit_code main_code main_class core_names five given finish is_print_int is_clinit start_names digits
+unfolding name_no line object_class out_class x_field print_ref clinit_code main_code main_class core_names five given finish native_table descriptor_of is_clinit digits
 stops_at_ten = (11, refl)
 
 -- the print is the tenth step
 nothing_at_nine : EndsWith (five 5) (given 9 67108864 1048576) 2 [] (finish StepLimit [] 9)
-unfolding name_no line object_class out_class x_field print_ref clinit_code main_code main_class core_names five given finish is_print_int is_clinit start_names digits
+unfolding name_no line object_class out_class x_field print_ref clinit_code main_code main_class core_names five given finish native_table descriptor_of is_clinit digits
 nothing_at_nine = (10, refl)
 
 -- with no step nothing happens
 nothing_at_zero : EndsWith (five 5) (given 0 67108864 1048576) 2 [] (finish StepLimit [] 0)
-unfolding name_no line object_class out_class x_field print_ref clinit_code main_code main_class core_names five given finish is_print_int is_clinit start_names digits
+unfolding name_no line object_class out_class x_field print_ref clinit_code main_code main_class core_names five given finish native_table descriptor_of is_clinit digits
 nothing_at_zero = (1, refl)
 
 -- a literal of all ones prints as -1
 prints_minus_one : EndsWith (five 4294967295) (given 11 67108864 1048576) 2 [] (finish Returned (45 ∷ 49 ∷ 10 ∷ []) 11)
-unfolding name_no line object_class out_class x_field print_ref clinit_code main_code main_class core_names five given finish is_print_int is_clinit start_names digits
+unfolding name_no line object_class out_class x_field print_ref clinit_code main_code main_class core_names five given finish native_table descriptor_of is_clinit digits
 prints_minus_one = (12, refl)
 
 -- the empty array of arguments takes 16 bytes: they must fit
 needs_sixteen_bytes : EndsWith (five 5) (given 11 15 1048576) 2 [] (finish HeapLimit [] 0)
-unfolding name_no line object_class out_class x_field print_ref clinit_code main_code main_class core_names five given finish is_print_int is_clinit start_names digits
+unfolding name_no line object_class out_class x_field print_ref clinit_code main_code main_class core_names five given finish native_table descriptor_of is_clinit digits
 needs_sixteen_bytes = refl
 
 sixteen_bytes_suffice : EndsWith (five 5) (given 11 16 1048576) 2 [] (finish Returned (53 ∷ 10 ∷ []) 11)
-unfolding name_no line object_class out_class x_field print_ref clinit_code main_code main_class core_names five given finish is_print_int is_clinit start_names digits
+unfolding name_no line object_class out_class x_field print_ref clinit_code main_code main_class core_names five given finish native_table descriptor_of is_clinit digits
 sixteen_bytes_suffice = (12, refl)
 
 -- the frame of the initialiser takes five words and that of main six
 needs_five_words : EndsWith (five 5) (given 11 16 4) 2 [] (finish FrameLimit [] 2)
-unfolding name_no line object_class out_class x_field print_ref clinit_code main_code main_class core_names five given finish is_print_int is_clinit start_names digits
+unfolding name_no line object_class out_class x_field print_ref clinit_code main_code main_class core_names five given finish native_table descriptor_of is_clinit digits
 needs_five_words = (3, refl)
 
 needs_six_words : EndsWith (five 5) (given 11 16 5) 2 [] (finish FrameLimit [] 7)
-unfolding name_no line object_class out_class x_field print_ref clinit_code main_code main_class core_names five given finish is_print_int is_clinit start_names digits
+unfolding name_no line object_class out_class x_field print_ref clinit_code main_code main_class core_names five given finish native_table descriptor_of is_clinit digits
 needs_six_words = (8, refl)
 
 -- the run begins for the third method of the program

@@ -3,7 +3,7 @@ use Rattle.std.proofs.Common.{◌≡◌, ℕ, zero, suc, List, [], ◌∷◌, �
 use Rattle.pi_model.specs.Program.{Program}
 use Rattle.pi_machine.specs.State.{State}
 use Rattle.pi_machine.specs.Deeds.{Deed, Make, Touch, Saw, Reads, Writes, SetStatic, SetStatus, SetField, SetItem, CallNative, Print, Start, Push, Pop, SetReg, Jump, GoOn, SetPhase, Pend, Unpend, Hold, do_deed, do_all}
-use Rattle.pi_machine.specs.Rows.{Deeds}
+use Rattle.pi_machine.specs.Operands.{Deeds}
 use Rattle.pi_machine.specs.Step.{deeds_of}
 use Rattle.std.specs.Prelude.{if◌then◌else◌, nat_lt, ◌==◌}
 use Rattle.pi_machine.specs.Ends.{End, HeapLimit, FrameLimit, StepLimit, Finish, Setting, Tally, Moment, Next, Ends, Goes, Sticks, next, next_by, next_step, end_of, goes_on, moves_on, run_by, moment_after, EndsFrom, BeginsAndEnds, with_deeds, is_inside, frame_words}

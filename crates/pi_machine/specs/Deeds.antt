@@ -1,4 +1,4 @@
--- What a step does: a list of deeds. A state changes only where a deed is done, each in one line.
+-- What a step does: a list of deeds. A state changes only where a deed is done, each in one line. The form is our own.
 use Rattle.std.specs.Prelude.{ℕ, ◌+◌, ◌==◌, List, [], ◌∷◌, ◌++◌, slice_get, slice_set, Option, Some, None, Bool, true, false, if◌then◌else◌}
 use Rattle.std.specs.List.{list_any}
 use Rattle.pi_model.specs.declared.reason.ClassState.{ClassState}
@@ -58,11 +58,13 @@ with_field i v (Instance c fields) = Instance c (slice_set fields i v)
 with_field i v (Array ty items) = Array ty items
 with_field i v (Text units) = Text units
 
+-- an object with another element
 abbrev pub with_item : ℕ → Value → Object → Object
 with_item i v (Instance c fields) = Instance c fields
 with_item i v (Array ty items) = Array ty (slice_set items i v)
 with_item i v (Text units) = Text units
 
+-- a thing whose object is changed
 abbrev pub in_thing : (Object → Object) → Thing → Thing
 in_thing change (Made file o) = Made file (change o)
 in_thing change (Touched file n) = Touched file n
@@ -72,6 +74,7 @@ abbrev pub put_changed : {A : Type 0} → (A → A) → ℕ → List A → Optio
 put_changed change i xs None = xs
 put_changed change i xs (Some x) = slice_set xs i (change x)
 
+-- the list with the element at a place changed, where there is one
 abbrev pub changed_at : {A : Type 0} → (A → A) → ℕ → List A → List A
 changed_at change i xs = put_changed change i xs (slice_get xs i)
 
@@ -86,14 +89,17 @@ on_frame change [] = []
 on_frame change (Call f ∷ below) = Call (change f) ∷ below
 on_frame change (Record c phase ∷ below) = Record c phase ∷ below
 
+-- the stack with the phase of its top changed, if that is a record
 abbrev pub on_record : Phase → List Entry → List Entry
 on_record phase [] = []
 on_record phase (Call f ∷ below) = Call f ∷ below
 on_record phase (Record c old ∷ below) = Record c phase ∷ below
 
+-- a frame with another value in a register
 abbrev pub with_register : ℕ → Value → Frame → Frame
 with_register a v f = record f { registers = slice_set f.registers a v }
 
+-- a frame that goes on at an address
 abbrev pub jumped : ℕ → Frame → Frame
 jumped to f = record f { at = to }
 
@@ -101,6 +107,7 @@ jumped to f = record f { at = to }
 abbrev pub past_call : Frame → Frame
 past_call f = record f { at = f.at + 3 }
 
+-- one deed is done
 abbrev pub do_deed : Deed → State → State
 do_deed (Make o) s = record s { things = s.things ++ Made s.file o ∷ [] }
 do_deed (Touch n) s = record s { things = with_touched s.file n s.things }

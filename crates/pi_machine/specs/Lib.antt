@@ -2,6 +2,10 @@
 pub mod State
 pub mod Deeds
 pub mod Objects
+pub mod Operands
+pub mod Codes
+pub mod Throwing
+pub mod Printed
 pub mod Natives
 pub mod Rows
 pub mod Initialisation
@@ -9,3 +13,4 @@ pub mod Step
 pub mod Start
 pub mod Ends
 pub mod Laws
+pub mod StepLaws

@@ -1,4 +1,4 @@
--- The state of the machine.
+-- The state of the machine. Its form is our own; what frames, registers and references are is that of the bytecode page.
 use Rattle.std.specs.Prelude.{ℕ, List, Option, Bool}
 use Rattle.pi_model.specs.declared.reason.ClassState.{ClassState}
 use Rattle.pi_model.specs.Values.{Ref, Value, Object}

@@ -3,6 +3,8 @@
 #![tactic(auto)]
 
 ghost use Rattle.pi_machine.specs.Laws.{EndIsUnique, RunEndIsUnique, OutputGrows, EndStays};
+ghost use Rattle.pi_machine.specs.StepLaws.{DeedsChangeOnly, StepsKeepStatuses, StartRecordsRun, StatusesStay};
+ghost use Rattle.pi_machine.specs.StepLaws.{RowsKeepWithin, RowWritesAreInside, LooksAreTrue, EndedHasNoStep, LongerRunEndsSame};
 
 /// A run from a state has one end at most.
 pub fn end_is_unique()
@@ -22,4 +24,50 @@ pub fn output_grows()
 /// A run ends from any of its moments as it does from its beginning.
 pub fn end_stays()
     ensures { EndStays }
+{}
+
+/// A step changes only what its deeds name; things are never fewer, and each keeps its shape.
+pub fn deeds_change_only()
+    ensures { DeedsChangeOnly }
+{}
+
+/// Statuses only move from fresh to in progress, and from there to done or to erroneous, where the class of each record on
+/// the stack is in progress and has no other record; and that is so after the step too.
+pub fn steps_keep_statuses()
+    ensures { StepsKeepStatuses }
+{}
+
+/// In the states in which runs start there are no records.
+pub fn start_records_run()
+    ensures { StartRecordsRun }
+{}
+
+/// A class that is done or erroneous stays so.
+pub fn statuses_stay()
+    ensures { StatusesStay }
+{}
+
+/// An instruction leaves statuses, records, phases and the start alone, and takes no pending throwable back.
+pub fn rows_keep_within()
+    ensures { RowsKeepWithin }
+{}
+
+/// No write of an instruction is lost: the static, field, element or register is there.
+pub fn row_writes_are_inside()
+    ensures { RowWritesAreInside }
+{}
+
+/// What the deeds of a step tell as read stands so in the state before it.
+pub fn looks_are_true()
+    ensures { LooksAreTrue }
+{}
+
+/// A state that is ended has no next step.
+pub fn ended_has_no_step()
+    ensures { EndedHasNoStep }
+{}
+
+/// A run that has ended within so many steps ends the same way within more.
+pub fn longer_run_ends_same()
+    ensures { LongerRunEndsSame }
 {}

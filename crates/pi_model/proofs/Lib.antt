@@ -5,3 +5,11 @@ pub mod Orders
 pub mod Firsts
 pub mod Starts
 mod Examples
+mod ArithmeticExamples
+mod LongExamples
+mod ConditionExamples
+mod Samples
+mod SubtypeExamples
+mod SearchExamples
+mod DispatchExamples
+mod FieldExamples

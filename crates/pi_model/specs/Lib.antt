@@ -5,7 +5,12 @@ pub mod Uses
 pub mod Program
 pub mod Values
 pub mod Texts
+pub mod Known
 pub mod Search
+pub mod Dispatch
+pub mod Subtypes
+pub mod Fields
+pub mod Arithmetic
 pub mod Sizes
 pub mod Valid
 pub mod Order

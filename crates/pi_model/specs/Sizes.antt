@@ -1,9 +1,10 @@
--- How many bytes objects take, as they count against the limits on heap bytes.
-use Rattle.std.specs.Prelude.{ℕ, zero, suc, ◌+◌, ◌-◌, ◌*◌, ◌/◌, ◌==◌, ◌||◌, List, [], length, Option, Some, None, Bool, false, if◌then◌else◌, slice_get, slice_index, count_by, bit_and, option_map, unwrap_or}
+-- How many bytes objects take, as they count against the limits on heap bytes. All of it is our own.
+use Rattle.std.specs.Prelude.{ℕ, zero, suc, ◌+◌, ◌-◌, ◌*◌, ◌/◌, ◌==◌, ◌||◌, List, length, Option, Some, None, Bool, false, if◌then◌else◌, slice_index, count_by, bit_and, option_map, unwrap_or}
 use Rattle.pi_model.specs.declared.numbers.NameNo.{NameNo}
 use Rattle.pi_model.specs.declared.describe.ClassDesc.{ClassDesc}
 use Rattle.pi_model.specs.declared.describe.FieldDesc.{FieldDesc}
 use Rattle.pi_model.specs.Program.{Program}
+use Rattle.pi_model.specs.Texts.{units_of}
 use Rattle.pi_model.specs.Values.{Object, Instance, Array, Text}
 use Rattle.pi_model.specs.Search.{class_at, class_of}
 
@@ -18,10 +19,6 @@ width_of letter = if letter == 90 || letter == 66 then 1 else
     if letter == 67 || letter == 83 then 2 else
     if letter == 74 then 8 else 4
 
--- the units of a name, none where there is no such name
-abbrev pub units_of : Program → ℕ → List ℕ
-units_of p n = unwrap_or (slice_get p.names n) []
-
 -- a header of sixteen bytes and that many elements, rounded up
 abbrev pub sized : ℕ → ℕ → ℕ
 sized width n = round_up (16 + width * n)
@@ -34,14 +31,16 @@ of_instances f = bit_and f.flags 8 == 0
 abbrev pub letter_of : Program → FieldDesc → ℕ
 letter_of p f = slice_index (units_of p f.ty.0) 0
 
--- how many fields of instances have that width; references (L and [) are counted apart from ints
+-- how many fields of instances have that width
 abbrev pub fields_of_width : Program → ℕ → List FieldDesc → ℕ
 fields_of_width p width fields =
     count_by (λ f. if of_instances f then width_of (letter_of p f) == width else false) fields
 
+-- a descriptor that begins so is that of a class or an array
 abbrev pub is_reference : ℕ → Bool
 is_reference letter = letter == 76 || letter == 91
 
+-- how many fields of instances are references, which stand apart from ints
 abbrev pub reference_fields : Program → List FieldDesc → ℕ
 reference_fields p fields = count_by (λ f. if of_instances f then is_reference (letter_of p f) else false) fields
 
@@ -63,6 +62,7 @@ abbrev pub begin_of : Program → (ℕ → ℕ) → Option NameNo → ℕ
 begin_of p end_of None = 8
 begin_of p end_of (Some parent) = unwrap_or (option_map end_of (class_of p parent)) 8
 
+-- the size of an instance of a class, by the sizes of its superclasses
 abbrev pub bytes_of : Program → (ℕ → ℕ) → Option ClassDesc → ℕ
 bytes_of p end_of None = 8
 bytes_of p end_of (Some d) = own_end p d.fields (begin_of p end_of d.parent)

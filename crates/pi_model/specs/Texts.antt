@@ -1,5 +1,5 @@
 -- Texts and descriptors by their units, and the names that the rules of the machine speak of.
-use Rattle.std.specs.Prelude.{ℕ, nat_eq, List, [], ◌∷◌, Option, Some, None, Bool, true, false, if◌then◌else◌, position, slice_get}
+use Rattle.std.specs.Prelude.{ℕ, nat_eq, List, [], ◌∷◌, Option, Some, None, Bool, true, false, if◌then◌else◌, position, slice_get, unwrap_or}
 use Rattle.std.specs.Cmp.Lexicographic.{pointwise}
 use Rattle.pi_model.specs.declared.numbers.NameNo.{NameNo}
 use Rattle.pi_model.specs.Program.{Program}
@@ -7,6 +7,10 @@ use Rattle.pi_model.specs.Program.{Program}
 -- two texts have the same units
 abbrev pub same_text : List ℕ → List ℕ → Bool
 same_text a b = pointwise nat_eq a b
+
+-- the units of the name of a number, none where there is no such name
+abbrev pub units_of : Program → ℕ → List ℕ
+units_of p n = unwrap_or (slice_get p.names n) []
 
 -- a text has the name of that number
 abbrev pub is_named : Program → NameNo → List ℕ → Bool

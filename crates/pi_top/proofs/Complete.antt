@@ -22,12 +22,12 @@ use Rattle.pi_machine.specs.Ends as ends
 use Rattle.pi_machine.specs.Ends.{End, Finish, EndsWith}
 use Rattle.pi_duty.specs.Words.{LazyWords}
 use Rattle.pi_duty.specs.Duty.{Contents, Owed, RunOwes, FileOwes, LengthOwes, LazyOwes, CommandOwes, ended, end_status, lazy_setting, most_bytes}
+use Rattle.pi_machine.proofs.Truths.{both}
 use Rattle.pi_top.specs.declared.plain.run.RunEnd.TheVariants.{Returned, Limited, OutFault}
 use Rattle.pi_top.specs.declared.outcome.Outcome.{Outcome}
 use Rattle.pi_top.specs.declared.outcome.Outcome.TheVariants.{Usage, Missing, ReadFault, TooLarge, Memory, NotBuilt, Ran}
 use Rattle.pi_top.specs.Answer.{RunEnds, OwesOver, IsSmallCall, EndsAsRun, is_owed, is_status}
 use Rattle.pi_top.specs.Outcome.{OutcomeGives, status_of}
-use Rattle.pi_top.proofs.Lists.{both}
 use Rattle.pi_top.proofs.Lookups.{ClassIs, class_is}
 use Rattle.pi_top.proofs.Roles.{RolesOf, roles_of}
 use Rattle.pi_top.proofs.MachineStart.{finds_main}

@@ -4,17 +4,11 @@ use Rattle.std.proofs.lemmas.Bool.Decides.{nat_tests}
 use Rattle.std.specs.Prelude.{nat_lt, slice_get, ◌&&◌, ◌==◌, find}
 use Rattle.pi_model.specs.declared.describe.Line.{Line}
 use Rattle.pi_format.specs.Shape.{laid_from}
-use Rattle.pi_top.proofs.Lists.{both, some_same}
+use Rattle.pi_machine.proofs.Truths.{both, same_of, same_self, some_same}
 use Rattle.pi_top.proofs.Words.{lt_of}
-
-equal_of : (a b : ℕ) → (a == b) ≡ true → a ≡ b
-equal_of a b e = grind (arith, nat_tests)
 
 not_equal : (a b : ℕ) → a < b → (a == b) ≡ false
 not_equal a b h = grind (arith, nat_tests)
-
-same_number : (a : ℕ) → (a == a) ≡ true
-same_number a = grind (arith, nat_tests)
 
 -- the parts of the test at the first instruction
 record LaidHere (start : ℕ) (l : Line) (ls : List Line) : Type 0 where
@@ -26,7 +20,7 @@ laid_here : (start : ℕ) (l : Line) (ls : List Line) → laid_from start (l ∷
 laid_here start l ls e =
     let a : ((l.at == start) ≡ true) × ((nat_lt 0 l.units && laid_from (start + l.units) ls) ≡ true) = both _ _ e in
     let b : (nat_lt 0 l.units ≡ true) × (laid_from (start + l.units) ls ≡ true) = both _ _ a.1 in
-    record { here = equal_of l.at start a.0; some = lt_of 0 l.units b.0; rest = b.1 }
+    record { here = same_of l.at start a.0; some = lt_of 0 l.units b.0; rest = b.1 }
 
 at_least : (start : ℕ) (ls : List Line) (i : ℕ) (m : Line) → laid_from start ls ≡ true → slice_get ls i ≡ Some m → start ≤ m.at
 at_least start [] i m e g = cc
@@ -44,7 +38,7 @@ pub find_laid : (start : ℕ) (ls : List Line) (i : ℕ) (m : Line) → laid_fro
 find_laid start [] i m e g = cc
 find_laid start (l ∷ ls) zero m e g =
     let same : l ≡ m = some_same l m g in
-    let k : (l.at == m.at) ≡ true = subst (λ (x : Line). (l.at == x.at) ≡ true) same (same_number l.at) in
+    let k : (l.at == m.at) ≡ true = subst (λ (x : Line). (l.at == x.at) ≡ true) same (same_self l.at) in
     rw k g
 find_laid start (l ∷ ls) (suc i) m e g =
     let h : LaidHere start l ls = laid_here start l ls e in

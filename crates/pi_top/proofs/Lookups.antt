@@ -1,7 +1,6 @@
 -- What the machine finds in the program of a small file: its class, the fields that its codes name, the native that
 -- they call, and the codes by the numbers of their methods.
-use Rattle.std.proofs.Common.{◌≡◌, ℕ, ◌<◌, Bool, true, false, List, [], ◌∷◌, length, Option, Some, None, refl, arith, sym, ◌∙◌, ap, zero-add}
-use Rattle.std.proofs.lemmas.Bool.Decides.{nat_tests}
+use Rattle.std.proofs.Common.{◌≡◌, ℕ, ◌<◌, Bool, true, false, List, [], ◌∷◌, length, Option, Some, None, refl, sym, ◌∙◌, ap, zero-add}
 use Rattle.std.proofs.lemmas.Option.{slice_get_within}
 use Rattle.std.specs.Prelude.{nat_lt, slice_get, cond, ◌&&◌, ◌==◌, not, is_some, unwrap_or, option_and_then}
 use Rattle.std.specs.List.{list_all, position_or_len}
@@ -17,16 +16,16 @@ use Rattle.pi_model.proofs.Members.{member_back}
 use Rattle.pi_format.specs.Core.{core_names, object_name, out_name, print_name, int_name, void_name}
 use Rattle.pi_model.specs.Distinct.{all_distinct}
 use Rattle.pi_format.specs.Small.{is_print, names_own, parent_fits, field_fits, same_field, methods_fit, class_fits, small_chain}
-use Rattle.pi_machine.specs.Natives.{PrintInt, is_print_int}
-use Rattle.pi_machine.specs.Rows.{code_in, code_of, native_at}
+use Rattle.pi_model.specs.Known.{descriptor_of}
+use Rattle.pi_model.specs.declared.insn.How.TheVariants.{Static}
+use Rattle.pi_model.specs.declared.insn.Kind.TheVariants as kind
+use Rattle.pi_machine.specs.Natives.{PrintInt, native_table}
+use Rattle.pi_machine.specs.Codes.{code_in, code_of}
+use Rattle.pi_machine.specs.Rows.Calls.{native_at, argument_kinds}
+use Rattle.pi_machine.proofs.Truths.{both, not_false, same_self, turned}
 use Rattle.pi_top.specs.Row.{place_of}
-use Rattle.pi_top.proofs.Lists.{both}
 use Rattle.pi_top.proofs.Roles.{same_name-is, same_names-is}
 use Rattle.pi_top.proofs.Words.{lt_of}
-
-not_true : (b : Bool) → not b ≡ true → b ≡ false
-not_true true e = cc
-not_true false e = refl
 
 -- the parts of the test of a class
 pub record ClassIs (d : ClassDesc) : Type 0 where
@@ -35,12 +34,6 @@ pub record ClassIs (d : ClassDesc) : Type 0 where
   pub parent : d.parent ≡ Some object_name
   pub fields : list_all field_fits d.fields ≡ true
   pub methods : methods_fit d d.methods ≡ true
-
-turned : (a b : ℕ) → (a == b) ≡ false → (b == a) ≡ false
-turned a b e = grind (arith, nat_tests)
-
-same_self : (n : ℕ) → (n == n) ≡ true
-same_self n = grind (arith, nat_tests)
 
 parent_is : (p : Option NameNo) → parent_fits p ≡ true → p ≡ Some object_name
 parent_is None e = cc
@@ -54,8 +47,8 @@ class_is d e =
     let f : (list_all field_fits d.fields ≡ true) × ((all_distinct same_field d.fields && methods_fit d d.methods) ≡ true) = both _ _ c.1 in
     let g : (all_distinct same_field d.fields ≡ true) × (methods_fit d d.methods ≡ true) = both _ _ f.1 in
     record {
-      no_object = turned d.name.0 0 (not_true _ a.0);
-      no_out = turned d.name.0 1 (not_true _ b.0);
+      no_object = turned d.name.0 0 false (not_false _ a.0);
+      no_out = turned d.name.0 1 false (not_false _ b.0);
       parent = parent_is d.parent c.0;
       fields = f.0;
       methods = g.1;
@@ -107,8 +100,12 @@ module _ (new : List (List ℕ)) (d : ClassDesc) (is : ClassIs d) where
   finds_print m e = rw (print_is m e) refl
 
   pub print_native : native_at (small_chain new d) (in_class 1 0) ≡ Some PrintInt
-  unfolding is_print_int core_names
+  unfolding native_table descriptor_of core_names
   print_native = refl
+
+  pub print_kinds : (m : MethodRef) → is_print m ≡ true → argument_kinds (small_chain new d) Static m ≡ kind.Word ∷ []
+  unfolding print_ref core_names
+  print_kinds m e = rw (print_is m e) refl
 
   pub field_number_is : (i : ℕ) → field_no_of (small_chain new d) (in_class 2 i) ≡ i
   field_number_is i = zero-add i

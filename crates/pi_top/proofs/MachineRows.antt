@@ -18,13 +18,14 @@ use Rattle.pi_model.specs.Values.{Value, Word, Num}
 use Rattle.pi_format.specs.Small.{insn_fits, names_own, is_print, one_below, small_chain}
 use Rattle.pi_machine.specs.State.{State, Thing, Frame, Entry, Call, Nothing}
 use Rattle.pi_machine.specs.Deeds.{Deed, Saw, OfStatus, OfStatic, SetStatic, CallNative, Print, Pop, SetReg, Jump, GoOn, Hold, do_all, on_frame, past_call}
-use Rattle.pi_machine.specs.Natives.{printed_int}
-use Rattle.pi_machine.specs.Rows.{Deeds, first_do, row}
+use Rattle.pi_machine.specs.Printed.{printed_int}
+use Rattle.pi_machine.specs.Operands.{Deeds, first_do}
+use Rattle.pi_machine.specs.Rows.{row}
 use Rattle.pi_machine.specs.Initialisation.{needed_by, by_need, by_status}
 use Rattle.pi_machine.specs.Ends.{Tally, with_deeds}
+use Rattle.pi_machine.proofs.Truths.{both}
 use Rattle.pi_top.specs.Row.{Effect, effect_of, place_of}
-use Rattle.pi_top.proofs.Lists.{both}
-use Rattle.pi_top.proofs.Lookups.{ClassIs, finds_field, place_within, finds_print, print_native, field_number_is}
+use Rattle.pi_top.proofs.Lookups.{ClassIs, finds_field, place_within, finds_print, print_native, print_kinds, field_number_is}
 use Rattle.pi_top.proofs.Words.{words_of, get_word, set_word, get_only, set_only, length_words, holds_lt, lt_of}
 
 -- the deeds of a move that waits for nothing, what they make of the state, and that none of them counts bytes
@@ -39,9 +40,9 @@ abbrev pub IsOpen : ClassState → Type 0
 IsOpen status = (status ≡ InProgress) ⊎ (status ≡ Done)
 
 -- a class that is in progress or done lets a move go on
-opened : (c : ℕ) (status : ClassState) → IsOpen status → (move : Deeds) → by_status c (Some status) move ≡ first_do (Saw (OfStatus c status)) move
-opened c status (inl e) move = rw e refl
-opened c status (inr e) move = rw e refl
+opened : (p : Program) (s : State) (c : ℕ) (status : ClassState) → IsOpen status → (move : Deeds) → by_status p s c (Some status) move ≡ first_do (Saw (OfStatus c status)) move
+opened p s c status (inl e) move = rw e refl
+opened p s c status (inr e) move = rw e refl
 
 -- a state of the run of a small file
 abbrev pub base : List Thing → ℕ → List ℕ → ClassState → Bool → List Entry → List ℕ → State
@@ -78,7 +79,7 @@ module _ (new : List (List ℕ)) (d : ClassDesc) (is : ClassIs d) (things : List
 
     abbrev pub Does : Insn → Type 0
     Does i = DoesTo (small_chain new d) now
-        (let p : Program = small_chain new d in by_need now (needed_by p i) (row p now (frame method at words extra) units i))
+        (let p : Program = small_chain new d in by_need p now (needed_by p i) (row p now (frame method at words extra) units i))
         (after (effect_of d i words statics))
 
     in_frame : (a : ℕ) → nat_lt a (length words) ≡ true → nat_lt a (length (words_of words ++ extra)) ≡ true
@@ -114,7 +115,7 @@ module _ (new : List (List ℕ)) (d : ClassDesc) (is : ClassIs d) (things : List
     sget_does a f h own = record {
       list = Saw (OfStatus 2 status) ∷ Saw (OfStatic (place_of d f) (Word (slice_index statics (place_of d f))))
           ∷ SetReg a (Word (slice_index statics (place_of d f))) ∷ Jump (at + units) ∷ [];
-      is = rw (field_is f own, opened 2 status open_, number_is f, get_only statics (place_of d f) (in_statics f own), in_frame a h) refl;
+      is = rw (field_is f own, opened (small_chain new d) now 2 status open_, number_is f, get_only statics (place_of d f) (in_statics f own), in_frame a h) refl;
       does = rw (set_word words extra a (slice_index statics (place_of d f)) (lt_of a _ h), append-nil out) refl;
       counts = λ t. refl;
     }
@@ -125,7 +126,7 @@ module _ (new : List (List ℕ)) (d : ClassDesc) (is : ClassIs d) (things : List
         holds_lt _ _ (let l : place_of d f < length statics = in_statics f own in omega (arith, length_words statics)) in
         record {
           list = Saw (OfStatus 2 status) ∷ SetStatic (place_of d f) (Word (slice_index words a)) ∷ Jump (at + units) ∷ [];
-          is = rw (field_is f own, opened 2 status open_, number_is f, get_word words extra a (lt_of a _ h), here) refl;
+          is = rw (field_is f own, opened (small_chain new d) now 2 status open_, number_is f, get_word words extra a (lt_of a _ h), here) refl;
           does = rw (set_only statics (place_of d f) (slice_index words a) (in_statics f own), append-nil out) refl;
           counts = λ t. refl;
         }
@@ -133,7 +134,7 @@ module _ (new : List (List ℕ)) (d : ClassDesc) (is : ClassIs d) (things : List
     print_does : (m : MethodRef) (c : ℕ) → is_print m ≡ true → nat_lt c (length words) ≡ true → Does (Invoke how.Static m (c ∷ []))
     print_does m c e h = record {
       list = Saw (OfStatus 1 Done) ∷ CallNative 0 ∷ Print (printed_int (slice_index words c)) ∷ Hold Nothing ∷ Jump (at + units) ∷ [];
-      is = rw (finds_print new d is m e, print_native new d is, get_word words extra c (lt_of c _ h)) refl;
+      is = rw (finds_print new d is m e, print_native new d is, get_word words extra c (lt_of c _ h), print_kinds new d is m e) refl;
       does = refl;
       counts = λ t. refl;
     }

@@ -1,23 +1,24 @@
 -- The start of a lazy run of a small file, and what the machine finds in its program.
 use Rattle.std.proofs.Common.{◌≡◌, ℕ, zero, suc, ◌*◌, Bool, true, false, List, [], ◌∷◌, ◌++◌, length, map, Option, Some, None, refl, arith, ◌∙◌, ap, subst, zero-add}
-use Rattle.std.proofs.lemmas.Bool.Decides.{nat_tests}
 use Rattle.std.proofs.lemmas.List.{append-nil}
-use Rattle.std.specs.Prelude.{◌==◌, ◌||◌, drop, option_map, option_and_then, slice_get, replicate, flat_map, position, slice_index, unwrap_or, codes, if◌then◌else◌}
+use Rattle.std.specs.Prelude.{◌==◌, drop, option_map, option_and_then, slice_get, replicate, flat_map, position, slice_index, unwrap_or, codes, if◌then◌else◌}
 use Rattle.std.specs.List.{list_all, list_any}
 use Rattle.pi_model.specs.declared.describe.ClassDesc.{ClassDesc}
 use Rattle.pi_model.specs.declared.describe.FieldDesc.{FieldDesc}
 use Rattle.pi_model.specs.declared.reason.ClassState.TheVariants.{Fresh, Done}
 use Rattle.pi_model.specs.Program.{same_name, method_number}
 use Rattle.pi_model.specs.Values.{Word}
-use Rattle.pi_model.specs.Sizes.{sized, width_of, units_of}
-use Rattle.pi_model.specs.Texts.{same_text, is_named, name_of}
+use Rattle.pi_model.specs.Sizes.{sized, width_of}
+use Rattle.pi_model.specs.Texts.{same_text, is_named, name_of, units_of}
+use Rattle.pi_model.specs.Fields.{first_value}
+use Rattle.pi_model.specs.Known.{descriptor_of}
 use Rattle.pi_format.specs.Core.{core_names, int_name, object_name, out_name}
 use Rattle.pi_model.specs.Distinct.{all_distinct}
 use Rattle.pi_format.specs.Small.{small_chain, field_fits, is_static, has_text}
 use Rattle.pi_model.specs.declared.numbers.NameNo.{NameNo}
 use Rattle.pi_top.proofs.Lookups.{ClassIs}
-use Rattle.pi_machine.specs.Start.{start_names, first_status, first_value, first_values, argument_bytes, is_main, main_in, main_of}
-use Rattle.pi_top.proofs.Lists.{both, some_same}
+use Rattle.pi_machine.specs.Start.{first_status, first_values, argument_bytes, is_main, main_in, main_of}
+use Rattle.pi_machine.proofs.Truths.{both, neither, same_of, same_self, some_same}
 use Rattle.pi_top.proofs.Roles.{same_name-is}
 use Rattle.pi_top.proofs.Words.{words_of}
 
@@ -49,18 +50,12 @@ module _ (new : List (List ℕ)) (d : ClassDesc) where
   statics_at_start e = append-nil (map (first_value (small_chain new d)) d.fields) ∙ first_zeros d.fields e
 
   pub statuses_at_start : d.file.0 ≡ 1 → map (first_status (small_chain new d)) (small_chain new d).classes ≡ Done ∷ Done ∷ Fresh ∷ []
-  unfolding core_names start_names
+  unfolding core_names descriptor_of
   statuses_at_start e = rw e refl
-
-same_number : (a : ℕ) → (a == a) ≡ true
-same_number a = grind (arith, nat_tests)
-
-equal_of : (a b : ℕ) → (a == b) ≡ true → a ≡ b
-equal_of a b e = grind (arith, nat_tests)
 
 same_text-refl : (a : List ℕ) → same_text a a ≡ true
 same_text-refl [] = refl
-same_text-refl (x ∷ xs) = rw (same_number x) (same_text-refl xs)
+same_text-refl (x ∷ xs) = rw (same_self x) (same_text-refl xs)
 
 same_text-is : (a b : List ℕ) → same_text a b ≡ true → a ≡ b
 same_text-is [] [] e = refl
@@ -68,7 +63,7 @@ same_text-is [] (y ∷ ys) e = cc
 same_text-is (x ∷ xs) [] e = cc
 same_text-is (x ∷ xs) (y ∷ ys) e =
     let h : ((x == y) ≡ true) × (same_text xs ys ≡ true) = both _ _ e in
-    let a : x ≡ y = equal_of x y h.0 in
+    let a : x ≡ y = same_of x y h.0 in
     let b : xs ≡ ys = same_text-is xs ys h.1 in
     cc
 
@@ -76,10 +71,6 @@ same_text-is (x ∷ xs) (y ∷ ys) e =
 if_false : (a b : Bool) → (if a then false else b) ≡ true → (a ≡ false) × (b ≡ true)
 if_false true b e = cc
 if_false false b e = (refl, e)
-
-neither : (a b : Bool) → (a || b) ≡ false → (a ≡ false) × (b ≡ false)
-neither true b e = cc
-neither false b e = (refl, e)
 
 any_none : {A : Type 0} (test : A → Bool) (xs : List A) (i : ℕ) (y : A) → list_any test xs ≡ false → slice_get xs i ≡ Some y → test y ≡ false
 any_none test [] i y e g = cc

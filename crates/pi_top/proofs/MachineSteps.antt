@@ -24,8 +24,10 @@ use Rattle.pi_model.specs.declared.describe.Init.{Init}
 use Rattle.pi_model.specs.declared.describe.Init.TheVariants as init
 use Rattle.pi_format.specs.Shape.{laid_from, has_no_value, is_zero}
 use Rattle.pi_machine.specs.State.{Thing, Entered, ValuesSet, Running}
-use Rattle.pi_machine.specs.Rows.{code_of, line_of, row}
+use Rattle.pi_machine.specs.Codes.{code_of, line_of}
+use Rattle.pi_machine.specs.Rows.{row}
 use Rattle.pi_machine.specs.Initialisation.{clinit_of, value_deeds, values_from, by_need, needed_by, needed_at}
+use Rattle.pi_machine.proofs.Truths.{both}
 use Rattle.pi_top.specs.declared.plain.place.Stage.{Stage}
 use Rattle.pi_top.specs.declared.plain.place.Stage.TheVariants as stage
 use Rattle.pi_top.specs.Places.{Registers}
@@ -34,7 +36,7 @@ use Rattle.pi_top.proofs.Lookups.{ClassIs}
 use Rattle.pi_top.specs.Row.{Effect, effect_of}
 use Rattle.pi_top.proofs.Laid.{find_laid, next_laid, first_laid}
 use Rattle.pi_top.proofs.MachineRows.{DoesTo, IsOpen, base, frame, stack_after, insn_does}
-use Rattle.pi_top.proofs.Lists.{both, list_all-get}
+use Rattle.pi_top.proofs.Lists.{list_all-get}
 use Rattle.pi_top.proofs.PlainLaws.{registers_stay, next_stands}
 use Rattle.pi_top.proofs.Words.{words_of, length_words, zero_words, fails_lt}
 
@@ -138,13 +140,13 @@ module _ (new : List (List ℕ)) (d : ClassDesc) (is : ClassIs d) (things : List
       let e : Effect = effect_of d l.insn f.words statics in
       let fit : insn_fits d (length f.words) l.insn ≡ true = list_all-get (line_fits d (length f.words)) code.insns f.line l fits.fits at in
       let P : ℕ → Type 0 = λ n. DoesTo p (base things main statics status started (Call (frame method n f.words extra) ∷ below) out)
-      (by_need (base things main statics status started (Call (frame method n f.words extra) ∷ below) out) (needed_by p l.insn)
+      (by_need p (base things main statics status started (Call (frame method n f.words extra) ∷ below) out) (needed_by p l.insn)
       (row p (base things main statics status started (Call (frame method n f.words extra) ∷ below) out) (frame method n f.words extra) l.units l.insn))
       (base things main e.statics status started (stack_after e.returns method (l.at + l.units) e.registers extra below) (out ++ e.printed)) in
       let x : P l.at = insn_does new d is things main status open_ started method l.at l.units f.words statics extra below out sized l.insn fit in
       let y : P (address code f.line) = subst P (sym (ap line_address at)) x in
-      let same : deeds_of p frame_now ≡ by_need frame_now (needed_by p l.insn) (row p frame_now (frame method (address code f.line) f.words extra) l.units l.insn) =
-      ap (λ o. by_need frame_now (needed_at p o) (instruction_move p frame_now (frame method (address code f.line) f.words extra) o)) (found_line l at) in
+      let same : deeds_of p frame_now ≡ by_need p frame_now (needed_by p l.insn) (row p frame_now (frame method (address code f.line) f.words extra) l.units l.insn) =
+      ap (λ o. by_need p frame_now (needed_at p o) (instruction_move p frame_now (frame method (address code f.line) f.words extra) o)) (found_line l at) in
       let goes : e.returns ≡ false → f.line + 1 < length code.insns = λ r. next_stands d code f statics fits (rw at r) in
       record {
         list = y.list;

@@ -1,6 +1,6 @@
 -- What is known of the methods of the class of a small file.
 use Rattle.std.proofs.Common.{◌≡◌, ◌⊎◌, inl, inr, ℕ, ◌-◌, ◌≤◌, Bool, true, false, List, [], ◌∷◌, Option, Some, None, refl, arith, ap}
-use Rattle.std.specs.Prelude.{nat_le, slice_get, if◌then◌else◌, ◌&&◌, ◌||◌, ◌==◌, position}
+use Rattle.std.specs.Prelude.{nat_le, slice_get, if◌then◌else◌, ◌&&◌, ◌==◌, position}
 use Rattle.std.specs.List.{list_all}
 use Rattle.std.proofs.lemmas.Bool.Decides.{nat_tests}
 use Rattle.pi_model.specs.declared.numbers.NameNo.{NameNo}
@@ -13,17 +13,14 @@ use Rattle.pi_format.specs.Core.{main_name, clinit_name, void_name, strings_name
 use Rattle.pi_format.specs.Small.{is_static, line_fits, ends_in_return, code_fits, method_fits, main_fits, clinit_fits, methods_fit, small_chain}
 use Rattle.pi_machine.specs.Start.{is_main}
 use Rattle.pi_machine.specs.Initialisation.{is_clinit}
+use Rattle.pi_machine.proofs.Truths.{both, either, same_of}
 use Rattle.pi_top.specs.Roles.{method_named}
-use Rattle.pi_top.proofs.Lists.{both}
 
 same_number : (a b : NameNo) → a.0 ≡ b.0 → a ≡ b
 same_number a b e = ap (λ (n : ℕ). let r : NameNo = record { 0 = n } in r) e
 
-eq-of : (a b : ℕ) → (a == b) ≡ true → a ≡ b
-eq-of a b e = grind arith
-
 pub same_name-is : (a b : NameNo) → same_name a b ≡ true → a ≡ b
-same_name-is a b e = same_number a b (eq-of a.0 b.0 e)
+same_name-is a b e = same_number a b (same_of a.0 b.0 e)
 
 both_if : (a b : Bool) → (if a then b else false) ≡ true → (a ≡ true) × (b ≡ true)
 both_if true b e = (refl, e)
@@ -69,7 +66,7 @@ method_with d name params ins m (Some code) is a b c s e =
       static = s;
       code = code;
       coded = is;
-      words = eq-of code.ins ins h.0;
+      words = same_of code.ins ins h.0;
       room = le-of ins code.regs i.0;
       fits = j.0;
       ends = j.1;
@@ -175,10 +172,6 @@ module _ (new : List (List ℕ)) (d : ClassDesc) where
       named = rw (t.named) refl;
     });
   }
-
-  either : (a b : Bool) → (a || b) ≡ true → (a ≡ true) ⊎ (b ≡ true)
-  either true b e = inl refl
-  either false b e = inr e
 
   pub roles_of : (ms : List MethodDesc) → methods_fit d ms ≡ true → RolesOf ms
   roles_of [] e = cc

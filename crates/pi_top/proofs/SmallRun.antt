@@ -17,13 +17,14 @@ use Rattle.pi_format.specs.Shape.{laid_from, code_laid, code_small, method_laid,
 use Rattle.pi_machine.specs.State.{Made}
 use Rattle.pi_machine.specs.Start.{start_state, argument_bytes, argument_objects}
 use Rattle.pi_machine.specs.Ends.{Finish, EndsFrom, first_tally}
-use Rattle.pi_machine.specs.Rows.{code_in}
+use Rattle.pi_machine.specs.Codes.{code_in}
 use Rattle.pi_duty.specs.Duty.{lazy_setting}
+use Rattle.pi_machine.proofs.Truths.{some_same}
 use Rattle.pi_top.specs.declared.plain.place.Stage.TheVariants.{Untouched}
 use Rattle.pi_top.specs.Answer.{RunEnds}
 use Rattle.pi_top.specs.Plain.{View, blank, clinit_words, plain_start, PlainEnds, FrameFits, ClinitFits, Fits}
 use Rattle.pi_top.specs.Roles.{method_named, HasMain, SeesClass}
-use Rattle.pi_top.proofs.Lists.{some_same, list_all-get}
+use Rattle.pi_top.proofs.Lists.{list_all-get}
 use Rattle.pi_top.proofs.Lookups.{ClassIs, class_is, finds_method, finds_code}
 use Rattle.pi_top.proofs.Roles.{ClinitAt, NoClinit, RolesOf, roles_of}
 use Rattle.pi_top.proofs.Words.{lt_of}
@@ -151,7 +152,7 @@ module _ (text : List ℕ) (new : List (List ℕ)) (v : View) (facts : ClassFact
   start_fits : Fits v (plain_start v)
   start_fits = record { statics = length-replicate (length v.class.fields) 0; clinit = clinit_parts.fits; main = main_fits_blank; initialises = λ e. cc }
 
-  start_begun : Begun new v main_number clinit_parts.number (map (λ o. Made None o) (argument_objects (small_chain new v.class) [])) (plain_start v) Untouched
+  start_begun : Begun new v main_number clinit_parts.number (map (λ o. Made None o) (argument_objects (small_chain new v.class) 0 [])) (plain_start v) Untouched
   start_begun = record {
     clinit_blank = λ e. refl;
     main_blank = λ e. refl;
@@ -161,17 +162,17 @@ module _ (text : List ℕ) (new : List (List ℕ)) (v : View) (facts : ClassFact
 
   -- nothing has run in either
   start_same : start_state (small_chain new v.class) main_number []
-      ≡ state_at new v main_number clinit_parts.number (map (λ o. Made None o) (argument_objects (small_chain new v.class) [])) (plain_start v) []
+      ≡ state_at new v main_number clinit_parts.number (map (λ o. Made None o) (argument_objects (small_chain new v.class) 0 [])) (plain_start v) []
   start_same = rw (statics_at_start new v.class is.fields, statuses_at_start new v.class facts.second) refl
 
-  tally_same : first_tally (small_chain new v.class) [] ≡ counted new v main_number clinit_parts.number (map (λ o. Made None o) (argument_objects (small_chain new v.class) [])) 0
+  tally_same : first_tally (small_chain new v.class) [] ≡ counted new v main_number clinit_parts.number (map (λ o. Made None o) (argument_objects (small_chain new v.class) 0 [])) 0
   tally_same = rw (bytes_at_start new v.class) refl
 
   run_ends : (limit : ℕ) (f : Finish) → PlainEnds v limit (plain_start v) 0 [] f → RunEnds (small_chain new v.class) text limit f
   run_ends limit f e =
-      let x : EndsFrom (small_chain new v.class) (lazy_setting limit) (state_at new v main_number clinit_parts.number (map (λ o. Made None o) (argument_objects (small_chain new v.class) [])) (plain_start v) [])
-      (counted new v main_number clinit_parts.number (map (λ o. Made None o) (argument_objects (small_chain new v.class) [])) 0) f =
-      machine_ends new v main_number clinit_parts.number (map (λ o. Made None o) (argument_objects (small_chain new v.class) [])) found limit e.count f (plain_start v) 0 [] e.ends start_fits start_begun in
+      let x : EndsFrom (small_chain new v.class) (lazy_setting limit) (state_at new v main_number clinit_parts.number (map (λ o. Made None o) (argument_objects (small_chain new v.class) 0 [])) (plain_start v) [])
+      (counted new v main_number clinit_parts.number (map (λ o. Made None o) (argument_objects (small_chain new v.class) 0 [])) 0) f =
+      machine_ends new v main_number clinit_parts.number (map (λ o. Made None o) (argument_objects (small_chain new v.class) 0 [])) found limit e.count f (plain_start v) 0 [] e.ends start_fits start_begun in
       let y : EndsFrom (small_chain new v.class) (lazy_setting limit) (start_state (small_chain new v.class) main_number []) (first_tally (small_chain new v.class) []) f =
       rw (start_same, tally_same) x in
       let room : nat_lt 67108864 (argument_bytes (small_chain new v.class) []) ≡ false = rw (bytes_at_start new v.class) refl in

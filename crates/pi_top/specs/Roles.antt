@@ -6,7 +6,7 @@ use Rattle.pi_model.specs.declared.describe.MethodDesc.{MethodDesc}
 use Rattle.pi_model.specs.Program.{Program, same_name}
 use Rattle.pi_model.specs.Search.{class_at}
 use Rattle.pi_format.specs.Core.{main_name, clinit_name}
-use Rattle.pi_machine.specs.Rows.{code_in}
+use Rattle.pi_machine.specs.Codes.{code_in}
 use Rattle.pi_top.specs.Plain.{View}
 
 -- the first method of a name

@@ -5,7 +5,7 @@ use Rattle.pi_model.specs.declared.insn.FieldRef.{FieldRef}
 use Rattle.pi_model.specs.declared.insn.Insn.{Insn}
 use Rattle.pi_model.specs.declared.insn.Insn.TheVariants.{Const, Sget, Sput, ReturnVoid, Invoke}
 use Rattle.pi_model.specs.Search.{own_field}
-use Rattle.pi_machine.specs.Natives.{printed_int}
+use Rattle.pi_machine.specs.Printed.{printed_int}
 
 -- registers and statics after an instruction, what it printed, and whether it returned
 pub record Effect : Type 0 where

@@ -3,7 +3,7 @@
 
 ghost use Rattle.std.specs.Prelude.{◌≡◌, ◌<◌, ◌≤◌, length, IfOk};
 ghost use Rattle.std.specs.Option.{option_copied};
-ghost use Rattle.pi_machine.specs.Rows.{code_in};
+ghost use Rattle.pi_machine.specs.Codes.{code_in};
 ghost use Rattle.pi_top.specs.Plain.{plain_start, blank};
 ghost use Rattle.pi_top.specs.Roles.{method_named, HasMain, SeesClass};
 ghost use Rattle.pi_top.specs.Seen.{view_of, plain_of};

@@ -1,0 +1,327 @@
+-- Calls through a running main. Four steps come before its first instruction; a call is one step, and so is a return.
+use Rattle.std.proofs.Common.{Some, None, ℕ, ◌+◌, List, [], ◌∷◌, ◌++◌, Option, refl}
+use Rattle.std.specs.Prelude.{codes}
+use Rattle.std.specs.Fmt.{digits}
+use Rattle.pi_model.specs.declared.numbers.NameNo.{NameNo}
+use Rattle.pi_model.specs.declared.describe.Catch.{Catch}
+use Rattle.pi_model.specs.declared.describe.Code.{Code}
+use Rattle.pi_model.specs.declared.describe.MethodDesc.{MethodDesc}
+use Rattle.pi_model.specs.declared.insn.Insn.{Insn}
+use Rattle.pi_model.specs.declared.insn.Insn.TheVariants.{MoveResult, MoveException, Return, Const, ConstWide, ConstString, ConstClass, NewInstance, InstanceOf, NewArray, ArrayLength, If, IfZ, Goto, Iget, Iput, Invoke, Binary, BinaryLit, ReturnVoid}
+use Rattle.pi_model.specs.declared.insn.Access.TheVariants.{Plain}
+use Rattle.pi_model.specs.declared.insn.Arith.TheVariants.{Int}
+use Rattle.pi_model.specs.declared.insn.BinOp.TheVariants.{Add, Mul}
+use Rattle.pi_model.specs.declared.insn.Cond.TheVariants.{Eq, Gt}
+use Rattle.pi_model.specs.declared.insn.How.{How}
+use Rattle.pi_model.specs.declared.insn.How.TheVariants.{Virtual, Super, Direct, Static, Interface}
+use Rattle.pi_model.specs.declared.insn.Kind.TheVariants as kind
+use Rattle.pi_model.specs.Dispatch.{is_virtual}
+use Rattle.pi_model.specs.Known.{descriptor_of}
+use Rattle.pi_model.specs.Program.{Program}
+use Rattle.pi_machine.specs.Initialisation.{is_clinit}
+use Rattle.pi_machine.specs.Natives.{native_table}
+use Rattle.pi_machine.proofs.Sample.{no, object, string, class_class, int, long, void, ints, init, own, class, code, handler, method, instance_field, field_ref, method_ref, chain, main_method, print, print_long, PrintsIn, ThrowsIn}
+
+-- The classes, by the numbers of their names: LB; below LA;, LC; below LB;, LD; and LE; below LA;. LB; implements LI;,
+-- an interface below LJ;. LX; is abstract and implements LI;, and LY; and LW; are below it.
+abbrev a : NameNo
+a = own 1
+
+abbrev b : NameNo
+b = own 2
+
+abbrev c : NameNo
+c = own 3
+
+abbrev d : NameNo
+d = own 4
+
+abbrev e : NameNo
+e = own 5
+
+abbrev i : NameNo
+i = own 6
+
+abbrev j : NameNo
+j = own 7
+
+abbrev x : NameNo
+x = own 8
+
+abbrev y : NameNo
+y = own 9
+
+abbrev w : NameNo
+w = own 10
+
+abbrev arrays_of_a : NameNo
+arrays_of_a = own 11
+
+-- m and q are found by the receiver's type, s and u call m of the superclass
+abbrev m : NameNo
+m = own 12
+
+abbrev p : NameNo
+p = own 13
+
+abbrev q : NameNo
+q = own 14
+
+abbrev s : NameNo
+s = own 15
+
+abbrev u : NameNo
+u = own 16
+
+abbrev z : NameNo
+z = own 17
+
+abbrev f : NameNo
+f = own 18
+
+abbrev clone : NameNo
+clone = no 51
+
+abbrev get_class : NameNo
+get_class = no 52
+
+-- a method without parameters that gives a number, in two steps; with flags, and by the receiver's type
+abbrev with_flags : NameNo → ℕ → ℕ → MethodDesc
+with_flags name flags n = method name [] int flags (code 2 1 (Const 0 n ∷ Return kind.Word 0 ∷ []) [])
+
+abbrev gives : NameNo → ℕ → MethodDesc
+gives name n = with_flags name 1 n
+
+abbrev abstract : NameNo → MethodDesc
+abstract name = method name [] int 0x401 None
+
+-- a method that calls m of the superclass, as a class names it, and gives its result; three steps and those of m
+abbrev calls_above : NameNo → NameNo → MethodDesc
+calls_above name class = method name [] int 1 (code 2 1 (Invoke Super (method_ref class m [] int) (1 ∷ []) ∷ MoveResult kind.Word 0 ∷ Return kind.Word 0 ∷ []) [])
+
+-- static methods: they print their first register and their arguments; and a factorial
+abbrev pair : Option Code
+pair = code 4 2 (print 0 ∷ print 2 ∷ print 3 ∷ ReturnVoid ∷ []) []
+
+abbrev with_long : Option Code
+with_long = code 5 4 (print 0 ∷ print 1 ∷ print_long 2 ∷ print 4 ∷ ReturnVoid ∷ []) []
+
+abbrev seven : Option Code
+seven = code 8 7 (print 1 ∷ print 6 ∷ print 7 ∷ ReturnVoid ∷ []) []
+
+abbrev factorial : Option Code
+factorial = code 3 1 (IfZ Gt 2 3 ∷ Const 0 1 ∷ Return kind.Word 0 ∷ BinaryLit Add 0 2 0xffffffff ∷ Invoke Static (method_ref (own 0) f (int ∷ []) int) (0 ∷ [])
+    ∷ MoveResult kind.Word 0 ∷ Binary (Int Mul) 0 0 2 ∷ Return kind.Word 0 ∷ []) []
+
+abbrev seven_ints : List NameNo
+seven_ints = int ∷ int ∷ int ∷ int ∷ int ∷ int ∷ int ∷ []
+
+abbrev catching : List Insn → List Catch → Program
+catching insns tries = chain (
+    codes "LT;" ∷ codes "LA;" ∷ codes "LB;" ∷ codes "LC;" ∷ codes "LD;" ∷ codes "LE;" ∷ codes "LI;" ∷ codes "LJ;" ∷ codes "LX;" ∷ codes "LY;" ∷ codes "LW;" ∷ codes "[LA;"
+    ∷ codes "m" ∷ codes "p" ∷ codes "q" ∷ codes "s" ∷ codes "u" ∷ codes "z" ∷ codes "f" ∷ []) (
+    class 1 (own 0) 1 (Some object) [] [] (main_method insns tries
+    ∷ method f (int ∷ int ∷ []) void 9 pair ∷ method f (int ∷ long ∷ int ∷ []) void 9 with_long ∷ method f seven_ints void 9 seven ∷ method f (int ∷ []) int 9 factorial ∷ [])
+    ∷ class 1 a 1 (Some object) [] (instance_field f int ∷ [])
+    (method init (int ∷ []) void 0x10001 (code 2 2 (Iput Plain 1 0 (field_ref a f int) ∷ ReturnVoid ∷ []) [])
+    ∷ with_flags p 2 3 ∷ method z [] int 9 (code 1 0 (Const 0 9 ∷ Return kind.Word 0 ∷ []) [])
+    ∷ gives m 1 ∷ method m (long ∷ []) long 1 (code 3 3 (Return kind.Wide 1 ∷ []) []) ∷ [])
+    ∷ class 1 b 1 (Some a) (i ∷ []) [] (gives m 2 ∷ gives p 30 ∷ gives q 6 ∷ calls_above s a ∷ calls_above u b ∷ [])
+    ∷ class 1 c 1 (Some b) [] [] (calls_above z a ∷ [])
+    ∷ class 1 d 1 (Some a) [] [] (with_flags m 2 4 ∷ [])
+    ∷ class 1 e 1 (Some a) [] [] (method m [] int 9 (code 1 0 (Const 0 5 ∷ Return kind.Word 0 ∷ []) []) ∷ method clone [] object 1 (code 2 1 (Const 0 0 ∷ Return kind.Ref 0 ∷ []) []) ∷ [])
+    ∷ class 1 i 0x601 (Some object) (j ∷ []) [] (abstract m ∷ abstract z ∷ [])
+    ∷ class 1 j 0x601 (Some object) [] [] (abstract q ∷ [])
+    ∷ class 1 x 0x401 (Some object) (i ∷ []) [] (abstract m ∷ [])
+    ∷ class 1 y 1 (Some x) [] [] (calls_above s x ∷ [])
+    ∷ class 1 w 1 (Some x) [] [] (gives m 8 ∷ [])
+    ∷ [])
+
+abbrev world : List Insn → Program
+world insns = catching insns []
+
+abbrev Shows : List Insn → List ℕ → ℕ → Type 0
+Shows insns output steps = PrintsIn (world insns) output steps
+
+-- a method of a class without parameters is called with register 0, and its result is printed: three steps and its own
+abbrev calls : How → NameNo → NameNo → List Insn
+calls how class name = Invoke how (method_ref class name [] int) (0 ∷ []) ∷ MoveResult kind.Word 1 ∷ print 1 ∷ []
+
+-- arguments arrive in the last registers in the order of the call, and the others begin as 0
+last_registers : Shows (Const 1 5 ∷ Const 2 6 ∷ Invoke Static (method_ref (own 0) f (int ∷ int ∷ []) void) (2 ∷ 1 ∷ []) ∷ print 1 ∷ ReturnVoid ∷ []) (codes "0\n6\n5\n5\n") 13
+unfolding descriptor_of native_table is_virtual is_clinit digits
+last_registers = (100, refl)
+
+-- a long is two arguments
+long_argument : Shows (Const 0 5 ∷ ConstWide 1 5000000000 ∷ Const 3 6 ∷ Invoke Static (method_ref (own 0) f (int ∷ long ∷ int ∷ []) void) (0 ∷ 1 ∷ 2 ∷ 3 ∷ []) ∷ ReturnVoid ∷ [])
+    (codes "0\n5\n5000000000\n6\n") 14
+unfolding descriptor_of native_table is_virtual is_clinit digits
+long_argument = (100, refl)
+
+-- many arguments in a row
+many_arguments : Shows (Const 1 1 ∷ Const 6 6 ∷ Const 7 7 ∷ Invoke Static (method_ref (own 0) f seven_ints void) (1 ∷ 2 ∷ 3 ∷ 4 ∷ 5 ∷ 6 ∷ 7 ∷ []) ∷ ReturnVoid ∷ [])
+    (codes "1\n6\n7\n") 13
+unfolding descriptor_of native_table is_virtual is_clinit digits
+many_arguments = (100, refl)
+
+-- a method that calls itself: six steps for each of 3, 2 and 1, and three for 0
+calls_itself : Shows (Const 0 3 ∷ Invoke Static (method_ref (own 0) f (int ∷ []) int) (0 ∷ []) ∷ MoveResult kind.Word 0 ∷ print 0 ∷ ReturnVoid ∷ []) (codes "6\n") 30
+unfolding descriptor_of native_table is_virtual is_clinit digits
+calls_itself = (100, refl)
+
+-- a static method is found in the superclass, whose class alone is entered
+static_above : Shows (Invoke Static (method_ref b z [] int) [] ∷ MoveResult kind.Word 1 ∷ print 1 ∷ ReturnVoid ∷ []) (codes "9\n") 13
+unfolding descriptor_of native_table is_virtual is_clinit digits
+static_above = (100, refl)
+
+-- the receiver's class decides: its own m, that of LB;, and for LC; the one it inherits
+overrides : Shows (NewInstance 0 a ∷ calls Virtual a m ++ NewInstance 0 b ∷ calls Virtual a m ++ NewInstance 0 c ∷ calls Virtual a m ++ ReturnVoid ∷ []) (codes "1\n2\n2\n") 32
+unfolding descriptor_of native_table is_virtual is_clinit digits
+overrides = (100, refl)
+
+-- a private or a static method of that name overrides nothing
+private_passed : Shows (NewInstance 0 d ∷ calls Virtual a m ++ calls Direct d m ++ ReturnVoid ∷ []) (codes "1\n4\n") 22
+unfolding descriptor_of native_table is_virtual is_clinit digits
+private_passed = (100, refl)
+
+-- nor does a static one
+static_passed : Shows (NewInstance 0 e ∷ calls Virtual a m ++ ReturnVoid ∷ []) (codes "1\n") 17
+unfolding descriptor_of native_table is_virtual is_clinit digits
+static_passed = (100, refl)
+
+-- a method of the same name and another prototype is another method; the receiver comes before the long
+by_prototype : Shows (NewInstance 0 b ∷ ConstWide 1 5000000000 ∷ Invoke Virtual (method_ref b m (long ∷ []) long) (0 ∷ 1 ∷ 2 ∷ []) ∷ MoveResult kind.Wide 3 ∷ print_long 3 ∷ ReturnVoid ∷ [])
+    (codes "5000000000\n") 17
+unfolding descriptor_of native_table is_virtual is_clinit digits
+by_prototype = (100, refl)
+
+-- invoke-super begins above the class of the code, whatever class the receiver or the reference is of: LB; calls the m
+-- of LA;, and LC; that of LB;
+super_of_code : Shows (NewInstance 0 c ∷ calls Virtual b s ++ calls Virtual b u ++ calls Virtual c z ++ ReturnVoid ∷ []) (codes "1\n1\n2\n") 39
+unfolding descriptor_of native_table is_virtual is_clinit digits
+super_of_code = (100, refl)
+
+-- invoke-direct calls the method that was found: a private one, though the receiver's class has a public one
+direct_private : Shows (NewInstance 0 b ∷ calls Direct a p ++ calls Virtual b p ++ ReturnVoid ∷ []) (codes "3\n30\n") 22
+unfolding descriptor_of native_table is_virtual is_clinit digits
+direct_private = (100, refl)
+
+-- a constructor sets a field of the new instance
+constructor : Shows (NewInstance 0 a ∷ Const 1 5 ∷ Invoke Direct (method_ref a init (int ∷ []) void) (0 ∷ 1 ∷ []) ∷ Iget Plain 2 0 (field_ref a f int) ∷ print 2 ∷ ReturnVoid ∷ []) (codes "5\n") 15
+unfolding descriptor_of native_table is_virtual is_clinit digits
+constructor = (100, refl)
+
+-- an interface's method is that of the receiver's class, also one of a superinterface and one that a subclass inherits
+interface_methods : Shows (NewInstance 0 c ∷ calls Interface i m ++ calls Interface i q ++ calls Interface j q ++ ReturnVoid ∷ []) (codes "2\n6\n6\n") 30
+unfolding descriptor_of native_table is_virtual is_clinit digits
+interface_methods = (100, refl)
+
+-- a class below an abstract one that implements the interface
+interface_of_abstract : Shows (NewInstance 0 w ∷ calls Interface i m ++ calls Virtual x m ++ ReturnVoid ∷ []) (codes "8\n8\n") 22
+unfolding descriptor_of native_table is_virtual is_clinit digits
+interface_of_abstract = (100, refl)
+
+-- a receiver without the interface throws IncompatibleClassChangeError, though it has such a method
+without_interface : ThrowsIn (world (NewInstance 0 a ∷ calls Interface i m)) 22 10
+unfolding descriptor_of native_table is_virtual is_clinit
+without_interface = (100, refl)
+
+-- so do an array, a text and a class object
+array_without_interface : ThrowsIn (world (Const 0 1 ∷ NewArray 0 0 arrays_of_a ∷ calls Interface i m)) 22 8
+unfolding descriptor_of native_table is_virtual is_clinit
+array_without_interface = (100, refl)
+
+-- a text
+text_without_interface : ThrowsIn (world (ConstString 0 string ∷ calls Interface j q)) 22 7
+unfolding descriptor_of native_table is_virtual is_clinit
+text_without_interface = (100, refl)
+
+-- a class object, also one of a class with the interface
+class_without_interface : ThrowsIn (world (ConstClass 0 b ∷ calls Interface i m)) 22 7
+unfolding descriptor_of native_table is_virtual is_clinit
+class_without_interface = (100, refl)
+
+-- AbstractMethodError: the receiver's class has no such method
+none_found : ThrowsIn (world (NewInstance 0 b ∷ calls Interface i z)) 23 13
+unfolding descriptor_of native_table is_virtual is_clinit
+none_found = (100, refl)
+
+-- and where the nearest one is abstract: of a class, by an interface, above the code's class
+abstract_found : ThrowsIn (world (NewInstance 0 y ∷ calls Virtual x m)) 23 13
+unfolding descriptor_of native_table is_virtual is_clinit
+abstract_found = (100, refl)
+
+-- called by the interface
+abstract_by_interface : ThrowsIn (world (NewInstance 0 y ∷ calls Interface i m)) 23 13
+unfolding descriptor_of native_table is_virtual is_clinit
+abstract_by_interface = (100, refl)
+
+-- the throwable leaves the frame of s and that of main
+abstract_above : ThrowsIn (world (NewInstance 0 y ∷ calls Virtual y s)) 23 15
+unfolding descriptor_of native_table is_virtual is_clinit
+abstract_above = (100, refl)
+
+-- no method above the class of the code
+none_above : ThrowsIn (world (NewInstance 0 a ∷ calls Super a m)) 23 10
+unfolding descriptor_of native_table is_virtual is_clinit
+none_above = (100, refl)
+
+-- 1 is printed where the class of register 0, called for in that way, is that of a type, else 0; six steps or seven
+abbrev class_is : How → NameNo → NameNo → ℕ → List Insn
+class_is how class t at = Invoke how (method_ref class get_class [] class_class) (0 ∷ []) ∷ MoveResult kind.Ref 1 ∷ ConstClass 2 t ∷ If Eq 1 2 (at + 8) ∷ Const 3 0 ∷ Goto (at + 9) ∷ Const 3 1 ∷ print 3 ∷ []
+
+-- where Object declares the method, an interface's call is one by the receiver's class: LA; has not the interface
+declared_by_object : Shows (NewInstance 0 a ∷ class_is Interface i a 1 ++ ReturnVoid ∷ []) (codes "1\n") 15
+unfolding descriptor_of native_table is_virtual is_clinit digits
+declared_by_object = (100, refl)
+
+-- an override of it is called
+override_of_object : Shows (NewInstance 0 e ∷ Invoke Interface (method_ref i clone [] object) (0 ∷ []) ∷ MoveResult kind.Ref 1 ∷ print 1 ∷ ReturnVoid ∷ []) (codes "0\n") 17
+unfolding descriptor_of native_table is_virtual is_clinit digits
+override_of_object = (100, refl)
+
+-- what a callee throws goes to the handler that covers its call, behind the step that leaves the callee's frame
+caught_at_call : PrintsIn (catching (NewInstance 0 y ∷ calls Virtual y s ++ ReturnVoid ∷ MoveException 1 ∷ InstanceOf 2 1 (no 22) ∷ print 2 ∷ ReturnVoid ∷ []) (handler 1 2 (Some (no 23)) 9 ∷ []))
+    (codes "1\n") 19
+unfolding descriptor_of native_table is_virtual is_clinit digits
+caught_at_call = (100, refl)
+
+-- methods of array types are those of Object
+array_clone : Shows (Const 0 3 ∷ NewArray 1 0 ints ∷ Invoke Virtual (method_ref ints clone [] object) (1 ∷ []) ∷ MoveResult kind.Ref 2 ∷ ArrayLength 3 2 ∷ print 3 ∷ ReturnVoid ∷ []) (codes "3\n") 11
+unfolding descriptor_of native_table is_virtual is_clinit digits
+array_clone = (100, refl)
+
+-- the class of an array is its type
+array_class : Shows (Const 0 3 ∷ NewArray 0 0 arrays_of_a ∷ class_is Virtual arrays_of_a arrays_of_a 2 ++ ReturnVoid ∷ []) (codes "1\n") 13
+unfolding descriptor_of native_table is_virtual is_clinit digits
+array_class = (100, refl)
+
+-- a null receiver throws NullPointerException in each way of a call, before the class or the method is looked at
+virtual_null : ThrowsIn (world (Const 0 0 ∷ calls Virtual a m)) 9 7
+unfolding descriptor_of native_table is_virtual is_clinit
+virtual_null = (100, refl)
+
+-- a native
+native_null : ThrowsIn (world (Const 0 0 ∷ Invoke Virtual (method_ref string (no 53) [] int) (0 ∷ []) ∷ [])) 9 7
+unfolding descriptor_of native_table is_virtual is_clinit
+native_null = (100, refl)
+
+-- invoke-super
+super_null : ThrowsIn (world (Const 0 0 ∷ calls Super a m)) 9 7
+unfolding descriptor_of native_table is_virtual is_clinit
+super_null = (100, refl)
+
+-- invoke-direct
+direct_null : ThrowsIn (world (Const 0 0 ∷ calls Direct a p)) 9 7
+unfolding descriptor_of native_table is_virtual is_clinit
+direct_null = (100, refl)
+
+-- invoke-interface, of a method that no class has
+interface_null : ThrowsIn (world (Const 0 0 ∷ calls Interface i z)) 9 7
+unfolding descriptor_of native_table is_virtual is_clinit
+interface_null = (100, refl)
+
+-- an abstract method
+abstract_null : ThrowsIn (world (Const 0 0 ∷ calls Virtual x m)) 9 7
+unfolding descriptor_of native_table is_virtual is_clinit
+abstract_null = (100, refl)
