@@ -1,0 +1,8 @@
+-- Worked examples of attempts and selections.
+mod Helpers
+mod Selections
+mod Images
+mod Limits
+mod Ahead
+pub mod Once
+pub mod Turns

@@ -1,0 +1,4 @@
+-- Initialising classes ahead of time.
+pub mod Watch
+pub mod Fold
+pub mod Laws

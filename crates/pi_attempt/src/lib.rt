@@ -1,0 +1,16 @@
+// Initialising classes ahead of time, as docs/transaction.md describes it: the watched run of one class, and the fold
+// over the selected classes of a chain. All of it is definitions in specs/; the laws about them are functions with no
+// body to run.
+#![tactic(auto)]
+
+ghost use Rattle.pi_attempt.specs.Laws.{EachAnsweredOnce, EndsUnlessStuck};
+
+/// Each selected class has one answer, and no other class has any.
+pub fn each_answered_once()
+    ensures { EachAnsweredOnce }
+{}
+
+/// The fold over the selections has a result unless the machine is stuck in an attempt.
+pub fn ends_unless_stuck()
+    ensures { EndsUnlessStuck }
+{}
