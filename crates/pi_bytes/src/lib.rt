@@ -1,0 +1,9 @@
+// Reads numbers and texts from bytes, and writes texts, as docs/dex-format.md states them under "Numbers" and "MUTF-8".
+#![tactic(auto)]
+
+pub mod cursor;
+pub mod fault;
+pub mod leb;
+pub mod mutf8;
+#[cfg(test)]
+mod tests;
