@@ -1,0 +1,8 @@
+// The stack of the machine's frames with their registers, in one store of words. docs/stores.md states the rules.
+#![tactic(auto)]
+
+mod frames;
+#[cfg(test)]
+mod tests;
+
+pub use frames::Frames;
