@@ -1,0 +1,5 @@
+pub mod Spaces
+pub mod Kept
+pub mod Parts
+pub mod Effects
+pub mod Free

@@ -1,0 +1,5 @@
+// Whole memories against tables of numbers.
+mod acts;
+mod calls;
+mod places;
+mod undone;
