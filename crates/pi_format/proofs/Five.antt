@@ -19,7 +19,7 @@ use Rattle.pi_format.specs.Instructions.{insn_at, code_at}
 use Rattle.pi_format.specs.ClassData.{field_row, method_row, members_at, class_at}
 use Rattle.pi_format.specs.Small.{small_class, small_program, small_chain}
 
-five_bytes : List ℕ
+unfoldable pub five_bytes : List ℕ
 five_bytes =
     100 ∷ 101 ∷ 120 ∷ 10 ∷ 48 ∷ 51 ∷ 53 ∷ 0 ∷ 15 ∷ 69 ∷ 21 ∷ 75 ∷ 100 ∷ 229 ∷ 32 ∷ 64 ∷
     81 ∷ 181 ∷ 78 ∷ 104 ∷ 221 ∷ 158 ∷ 148 ∷ 34 ∷ 166 ∷ 158 ∷ 117 ∷ 164 ∷ 187 ∷ 251 ∷ 137 ∷ 43 ∷

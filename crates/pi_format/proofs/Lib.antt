@@ -1,4 +1,5 @@
 mod Five
+mod Ruled
 pub mod Shapes
 mod Used
 pub mod Behind

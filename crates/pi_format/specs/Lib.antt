@@ -8,3 +8,4 @@ pub mod Instructions
 pub mod ClassData
 pub mod Small
 pub mod Shape
+pub mod Rules

@@ -1,0 +1,16 @@
+-- Lemmas on the tests of tables.
+pub mod Loops
+pub mod Lists
+pub mod Places
+pub mod Heads
+pub mod Steps
+pub mod Known
+pub mod Halves
+pub mod Params
+pub mod Firsts
+pub mod Marks
+pub mod Faces
+pub mod Chain
+pub mod Zeros
+pub mod Found
+pub mod Judged

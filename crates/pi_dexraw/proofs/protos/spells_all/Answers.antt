@@ -1,0 +1,25 @@
+use Rattle.std.proofs.Common.{◌≡◌, ℕ, List, ◌∷◌, Bool, ap, ◌∙◌, subst}
+use Rattle.std.specs.Prelude.{map}
+use Rattle.std.specs.Result.{IfOk}
+use Rattle.pi_model.specs.Texts.{same_text}
+use Rattle.pi_format.specs.Rules.Entries.{list_at}
+use Rattle.pi_format.specs.Rules.Descriptors.{short_letter}
+use Rattle.pi_format.specs.Rules.Strings.{string_units, type_units}
+use Rattle.pi_format.specs.Rules.Members.{proto_entry, short_agrees}
+use Rattle.pi_dexraw.proofs.protos.spells_all.Goals as goal
+
+pub returns : goal.returns
+unfolding short_agrees
+returns c =
+    let file = c.args.types.now in
+    let same = c.file-file.ensures.same in
+    let i = c.args.i in
+    let f : ℕ → ℕ = λ t. short_letter (type_units file t) in
+    let ret : c.ret_of.result ≡ (proto_entry file i).ret = c.ret_of.ensures ∙ ap (λ (g : List ℕ). (proto_entry g i).ret) same in
+    let wanted = c.as_slice.ensures.value ∙ c.in_ok-wanted.ensures
+    ∙ ap (λ (r : ℕ). short_letter (type_units file r) ∷ map f c.args.params.now) ret
+    ∙ ap (λ (ps : List ℕ). short_letter (type_units file (proto_entry file i).ret) ∷ map f ps) c.requires.params in
+    let short = ap (string_units c.file-file.result.now) c.short_of.ensures ∙ ap (λ (g : List ℕ). string_units g (proto_entry g i).short) same in
+    let whole = ap (λ (w : List ℕ). same_text w (string_units c.file-file.result.now c.short_of.result)) wanted
+    ∙ ap (same_text (short_letter (type_units file (proto_entry file i).ret) ∷ map f (list_at file (proto_entry file i).params))) short in
+    subst (λ (b : Bool). IfOk c.spells.result (λ r. r ≡ b)) whole c.spells.ensures

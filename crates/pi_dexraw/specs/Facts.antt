@@ -1,0 +1,74 @@
+-- Facts that are computed once and kept in lists by number.
+use Rattle.std.proofs.Common.{get_or}
+use Rattle.std.specs.Prelude.{◌≡◌, ◌<◌, ◌+◌, ◌-◌, ◌*◌, ◌==◌, zero, suc, if◌then◌else◌, ℕ, List, [], ◌∷◌, length, slice_get, Option, Some, None, Bool, true, false, is_some, ◌&&◌, nat_le, nat_eq}
+use Rattle.pi_format.specs.Rules.Descriptors.{is_member_name, is_method_name}
+use Rattle.pi_format.specs.Tables.{count_at, string_ids, type_ids, class_defs}
+use Rattle.pi_format.specs.Rules.Strings.{read_text, string_units, type_string, type_units}
+use Rattle.std.specs.List.{list_all}
+use Rattle.pi_model.specs.Distinct.{all_distinct}
+use Rattle.pi_format.specs.Rules.Entries.{list_at}
+use Rattle.pi_format.specs.Rules.Classes.{class_entry, is_class_id, stands_earlier}
+use Rattle.pi_dexraw.specs.Whole.{HasTables}
+
+-- a list has for each number below a bound what a function gives
+pub record AreFacts {A : Type 0} (fact : ℕ → A) (n : ℕ) (list : List A) : Type 0 where
+  pub counted : length list ≡ n
+  pub each : (k : ℕ) → k < n → slice_get list k ≡ Some (fact k)
+
+abbrev pub first_unit : List ℕ → ℕ
+first_unit [] = 0
+first_unit (u ∷ units) = u
+
+-- the first unit of a type's descriptor
+unfoldable pub letter_of : List ℕ → ℕ → ℕ
+letter_of file t = first_unit (type_units file t)
+
+-- the first of n numbers, from i on, that passes a test, or else the number behind them
+abbrev pub first_from : (ℕ → Bool) → ℕ → ℕ → ℕ
+first_from test i zero = i
+first_from test i (suc n) = if test i then i else first_from test (i + 1) n
+
+-- the first definition of a type from the i-th definition on, or else their number
+unfoldable pub first_definition : List ℕ → ℕ → ℕ → ℕ
+first_definition file i t = first_from (λ k. (class_entry file k).class == t) i (count_at file class_defs - i)
+
+-- A file whose tables lie in it and whose types name strings; a list of the first unit of each type, and one of the
+-- first definition of each.
+pub record KnowsTypes (file letters firsts : List ℕ) : Type 0 where
+  pub tables : HasTables file
+  pub strings : (t : ℕ) → t < count_at file type_ids → type_string file t < count_at file string_ids
+  pub facts : AreFacts (letter_of file) (count_at file type_ids) letters
+  pub definitions : AreFacts (first_definition file 0) (count_at file type_ids) firsts
+
+-- the numbers of a list are below a bound
+pub record AreInRange (n : ℕ) (list : List ℕ) : Type 0 where
+  pub below : (k : ℕ) → k < length list → get_or list k 0 < n
+
+-- whether a string is the name of a member, and of a method
+unfoldable pub member_name_of : List ℕ → ℕ → Bool
+member_name_of file i = is_member_name (string_units file i)
+
+unfoldable pub method_name_of : List ℕ → ℕ → Bool
+method_name_of file i = is_method_name (string_units file i)
+
+-- an offset whose flag is up has a text
+pub record AreFound (file : List ℕ) (found : List Bool) : Type 0 where
+  pub each : (k : ℕ) → slice_get found k ≡ Some true → is_some (read_text file k) ≡ true
+
+-- none before a definition of that number, or else none at all
+abbrev pub none_before : Option ℕ → ℕ → Bool
+none_before None i = false
+none_before (Some n) i = nat_le n i
+
+-- from which definition on types are classes that stand earlier, if from any
+pub record AreFaces (file faces : List ℕ) (from : Option ℕ) : Type 0 where
+  pub each : (i : ℕ) → i < count_at file class_defs → list_all (λ t. is_class_id file t && stands_earlier file i t) faces ≡ none_before from i
+
+-- the same of types that are distinct too
+pub record AreJudged (file faces : List ℕ) (from : Option ℕ) : Type 0 where
+  pub each : (i : ℕ) → i < count_at file class_defs
+      → (list_all (λ t. is_class_id file t && stands_earlier file i t) faces && all_distinct nat_eq faces) ≡ none_before from i
+
+-- for a multiple of four, 0, or else the number behind that from which on the list there is so
+pub record AreKnown (file known : List ℕ) : Type 0 where
+  pub each : (k n : ℕ) → slice_get known k ≡ Some (n + 1) → AreJudged file (list_at file (4 * k)) (Some n)

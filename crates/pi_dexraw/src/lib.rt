@@ -1,0 +1,26 @@
+// Tests the tables of a file by the rules X1 to X17 of docs/dex-format.md, and lends its strings and entries by number.
+#![tactic(auto)]
+
+mod bytes;
+mod classes;
+mod distinct;
+mod entries;
+mod facts;
+mod fault;
+#[cfg(test)]
+mod five;
+mod header;
+mod map;
+mod members;
+mod names;
+mod protos;
+mod raw;
+mod strings;
+#[cfg(test)]
+mod tests;
+mod texts;
+mod type_lists;
+mod types;
+
+pub use fault::DexFault;
+pub use raw::Raw;
