@@ -1,0 +1,8 @@
+-- The definitions that contracts cite.
+pub mod Lines
+pub mod Telling
+pub mod Units
+pub mod Selection
+pub mod Numbers
+pub mod Job
+pub mod Took

@@ -1,0 +1,23 @@
+// Reads the texts of jobs and of selections. docs/job.md states both.
+#![tactic(auto)]
+
+mod draft;
+mod fault;
+mod job;
+mod lines;
+mod names;
+#[cfg(test)]
+mod number_tests;
+mod numbers;
+mod reading;
+mod selection;
+#[cfg(test)]
+mod selection_tests;
+#[cfg(test)]
+mod tests;
+mod units;
+
+pub use fault::TextFault;
+pub use job::{ImageLine, ImageLines, Job, Word, Words};
+pub use reading::read_job;
+pub use selection::{Selection, read_selection};
