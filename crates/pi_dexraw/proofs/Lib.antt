@@ -3,7 +3,10 @@ pub mod Loops
 pub mod Lists
 pub mod Places
 pub mod Heads
-pub mod Steps
+pub mod Behind
+pub mod Order
+mod Examples
+pub mod Grammar
 pub mod Known
 pub mod Halves
 pub mod Params
@@ -12,5 +15,4 @@ pub mod Marks
 pub mod Faces
 pub mod Chain
 pub mod Zeros
-pub mod Found
 pub mod Judged

@@ -1,9 +1,8 @@
 -- Facts that are computed once and kept in lists by number.
 use Rattle.std.proofs.Common.{get_or}
-use Rattle.std.specs.Prelude.{◌≡◌, ◌<◌, ◌+◌, ◌-◌, ◌*◌, ◌==◌, zero, suc, if◌then◌else◌, ℕ, List, [], ◌∷◌, length, slice_get, Option, Some, None, Bool, true, false, is_some, ◌&&◌, nat_le, nat_eq}
-use Rattle.pi_format.specs.Rules.Descriptors.{is_member_name, is_method_name}
+use Rattle.std.specs.Prelude.{◌≡◌, ◌<◌, ◌+◌, ◌-◌, ◌*◌, ◌==◌, zero, suc, if◌then◌else◌, ℕ, List, [], ◌∷◌, length, slice_get, Option, Some, None, Bool, false, ◌&&◌, nat_le, nat_eq}
 use Rattle.pi_format.specs.Tables.{count_at, string_ids, type_ids, class_defs}
-use Rattle.pi_format.specs.Rules.Strings.{read_text, string_units, type_string, type_units}
+use Rattle.pi_format.specs.Rules.Strings.{type_string, type_units}
 use Rattle.std.specs.List.{list_all}
 use Rattle.pi_model.specs.Distinct.{all_distinct}
 use Rattle.pi_format.specs.Rules.Entries.{list_at}
@@ -43,17 +42,6 @@ pub record KnowsTypes (file letters firsts : List ℕ) : Type 0 where
 -- the numbers of a list are below a bound
 pub record AreInRange (n : ℕ) (list : List ℕ) : Type 0 where
   pub below : (k : ℕ) → k < length list → get_or list k 0 < n
-
--- whether a string is the name of a member, and of a method
-unfoldable pub member_name_of : List ℕ → ℕ → Bool
-member_name_of file i = is_member_name (string_units file i)
-
-unfoldable pub method_name_of : List ℕ → ℕ → Bool
-method_name_of file i = is_method_name (string_units file i)
-
--- an offset whose flag is up has a text
-pub record AreFound (file : List ℕ) (found : List Bool) : Type 0 where
-  pub each : (k : ℕ) → slice_get found k ≡ Some true → is_some (read_text file k) ≡ true
 
 -- none before a definition of that number, or else none at all
 abbrev pub none_before : Option ℕ → ℕ → Bool

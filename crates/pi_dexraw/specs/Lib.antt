@@ -3,3 +3,5 @@ pub mod Asked
 pub mod Whole
 pub mod Facts
 pub mod Texts
+pub mod Tails
+pub mod Ranks

@@ -12,15 +12,19 @@ mod five;
 mod header;
 mod map;
 mod members;
-mod names;
 mod protos;
+mod ranks;
 mod raw;
+mod sorted;
 mod strings;
+mod tail;
+mod tails;
 #[cfg(test)]
 mod tests;
 mod texts;
 mod type_lists;
 mod types;
+mod unit;
 
 pub use fault::DexFault;
 pub use raw::Raw;

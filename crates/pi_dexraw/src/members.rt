@@ -1,21 +1,29 @@
 // Rules X15 and X16, on the tables of fields and methods. docs/dex-format.md states them.
 
-ghost use Rattle.std.specs.Prelude.{◌≡◌, ◌+◌, ◌<◌, ◌≤◌, ◌&&◌, nat_lt, length, true, IfOk};
+ghost use Rattle.std.specs.Prelude.{◌≡◌, ◌+◌, ◌<◌, ◌≤◌, ◌==◌, ◌||◌, codes, length, true, IfOk};
+ghost use Rattle.std.specs.List.{list_any};
+ghost use Rattle.pi_model.specs.Texts.{same_text};
 ghost use Rattle.pi_format.specs.Tables.{table_holds, count_at, field_ids, method_ids, string_ids};
 ghost use Rattle.pi_format.specs.Rules.Descriptors.{is_member_name, is_method_name};
 ghost use Rattle.pi_format.specs.Rules.Strings.{string_units};
 ghost use Rattle.pi_format.specs.Rules.Members.{member_entry, member_rises, field_fits, field_holds, broken_fields, method_fits, method_holds, broken_methods};
 ghost use Rattle.pi_dexraw.specs.Whole.{HasTables};
-ghost use Rattle.pi_dexraw.specs.Facts.{AreFacts, member_name_of, method_name_of};
+ghost use Rattle.pi_dexraw.specs.Tails.{AreTails};
 
 use crate::bytes::{half, word};
 use crate::entries::{count, entry};
-use crate::facts::fact;
 use crate::header::{FIELD_IDS, METHOD_IDS, PROTO_IDS, STRING_IDS};
-use crate::names::{names_member, names_method};
-use crate::texts::units;
+use crate::tail::{Tail, is_member_name};
+use crate::tails::string;
+use crate::type_lists::spells;
 use crate::types::Types;
 use std::alloc::{AllocError, Global};
+
+/// `<init>`.
+const INIT: [u16; 6] = [60, 105, 110, 105, 116, 62];
+
+/// `<clinit>`.
+const CLINIT: [u16; 8] = [60, 99, 108, 105, 110, 105, 116, 62];
 
 /// The class of a member.
 fn class_of(file: &[u8], table: usize, i: usize) -> usize
@@ -63,57 +71,63 @@ fn rises(file: &[u8], table: usize, i: usize) -> bool
     by_class.then(by_name.then(by_kind)).is_lt()
 }
 
-/// For each string whether it is the name of a member.
-#[tactic(auto, unfolding(crate::specs::Facts::member_name_of))]
-fn member_names(alloc: Global, file: &[u8]) -> Result<Vec<bool>, AllocError>
-    requires { HasTables file.now }
-    ensures { IfOk result (λ list. AreFacts (member_name_of file.now) (count_at file.now string_ids) list.items) }
-{
-    let mut list = Vec::new(alloc);
-    for i in 0..count(file, STRING_IDS) {
-        let units = units(alloc, file, i)?;
-        list.push(names_member(units.as_slice()))?;
-    }
-    Ok(list)
-}
-
-/// For each string whether it is the name of a method.
-#[tactic(auto, unfolding(crate::specs::Facts::method_name_of))]
-fn method_names(alloc: Global, file: &[u8]) -> Result<Vec<bool>, AllocError>
-    requires { HasTables file.now }
-    ensures { IfOk result (λ list. AreFacts (method_name_of file.now) (count_at file.now string_ids) list.items) }
-{
-    let mut list = Vec::new(alloc);
-    for i in 0..count(file, STRING_IDS) {
-        let units = units(alloc, file, i)?;
-        list.push(names_method(units.as_slice()))?;
-    }
-    Ok(list)
-}
-
-/// Whether there is a string of that number, and a list of facts has it.
-fn is_named(file: &[u8], names: &[bool], name: usize) -> bool
+/// Whether a string is the name of a member.
+fn names_member(file: &[u8], tails: &[Option<Tail>], i: usize) -> bool
     requires tables { HasTables file.now }
-    requires names { AreFacts (member_name_of file.now) (count_at file.now string_ids) names.now }
-    ensures { result ≡ (nat_lt name (count_at file.now string_ids) && member_name_of file.now name) }
+    requires counted { i < count_at file.now string_ids }
+    requires tails { AreTails file.now 0 tails.now }
+    ensures { result ≡ is_member_name (string_units file.now i) }
 {
-    name < count(file, STRING_IDS) && fact(names, name)
+    is_member_name(string(file, tails, i))
 }
 
-/// Whether there is a string of that number, and it is the name of a method.
-fn is_method_named(file: &[u8], names: &[bool], name: usize) -> bool
+/// Whether a string has a `<`.
+fn has_angle(file: &[u8], tails: &[Option<Tail>], i: usize) -> bool
     requires tables { HasTables file.now }
-    requires names { AreFacts (method_name_of file.now) (count_at file.now string_ids) names.now }
-    ensures { result ≡ (nat_lt name (count_at file.now string_ids) && method_name_of file.now name) }
+    requires counted { i < count_at file.now string_ids }
+    requires tails { AreTails file.now 0 tails.now }
+    ensures { result ≡ list_any (λ u. u == 60) (string_units file.now i) }
 {
-    name < count(file, STRING_IDS) && fact(names, name)
+    string(file, tails, i).has_angle
 }
 
-/// Whether a field fits, with a flag for each string that is the name of a member.
-#[tactic(auto, unfolding(crate::specs::Facts::member_name_of))]
-fn fits_field(types: &Types<'_>, names: &[bool], i: usize) -> bool
+/// Whether a string is the name of a constructor or an initialiser.
+fn is_special(alloc: Global, file: &[u8], i: usize) -> Result<bool, AllocError>
+    requires tables { HasTables file.now }
+    requires counted { i < count_at file.now string_ids }
+    ensures { IfOk result (λ r. r ≡ (same_text (codes "<init>") (string_units file.now i) || same_text (codes "<clinit>") (string_units file.now i))) }
+{
+    if spells(alloc, file, i, &INIT)? {
+        return Ok(true);
+    }
+    spells(alloc, file, i, &CLINIT)
+}
+
+/// Whether a string is the name of a method: one with `<` is that of a constructor or an initialiser.
+fn names_method(
+    alloc: Global,
+    file: &[u8],
+    tails: &[Option<Tail>],
+    i: usize,
+) -> Result<bool, AllocError>
+    requires tables { HasTables file.now }
+    requires counted { i < count_at file.now string_ids }
+    requires tails { AreTails file.now 0 tails.now }
+    ensures { IfOk result (λ r. r ≡ is_method_name (string_units file.now i)) }
+{
+    if !names_member(file, tails, i) {
+        return Ok(false);
+    }
+    if !has_angle(file, tails, i) {
+        return Ok(true);
+    }
+    is_special(alloc, file, i)
+}
+
+/// Whether a field fits.
+fn fits_field(types: &Types<'_>, tails: &[Option<Tail>], i: usize) -> bool
     requires counted { i < count_at types.now field_ids }
-    requires names { AreFacts (member_name_of types.now) (count_at types.now string_ids) names.now }
+    requires tails { AreTails types.now 0 tails.now }
     ensures { result ≡ field_fits types.now (member_entry types.now field_ids i) }
 {
     let file = types.file();
@@ -121,65 +135,88 @@ fn fits_field(types: &Types<'_>, names: &[bool], i: usize) -> bool
     if class >= types.count() || !types.is_class(class) {
         return false;
     }
-    types.is_value(kind_of(file, FIELD_IDS, i))
-        && is_named(file, names, name_of(file, FIELD_IDS, i))
+    if !types.is_value(kind_of(file, FIELD_IDS, i)) {
+        return false;
+    }
+    let name = name_of(file, FIELD_IDS, i);
+    name < count(file, STRING_IDS) && names_member(file, tails, name)
 }
 
 /// Whether a field fits and is behind the one before it.
-fn holds_field(types: &Types<'_>, names: &[bool], i: usize) -> bool
+fn holds_field(types: &Types<'_>, tails: &[Option<Tail>], i: usize) -> bool
     requires counted { i < count_at types.now field_ids }
-    requires names { AreFacts (member_name_of types.now) (count_at types.now string_ids) names.now }
+    requires tails { AreTails types.now 0 tails.now }
     ensures { result ≡ field_holds types.now i }
 {
-    fits_field(types, names, i) && rises(types.file(), FIELD_IDS, i)
+    fits_field(types, tails, i) && rises(types.file(), FIELD_IDS, i)
 }
 
 /// X15: fields fit and rise.
-pub(crate) fn fields_rule(alloc: Global, types: &Types<'_>) -> Result<Option<u32>, AllocError>
-    ensures { IfOk result (λ r. r ≡ broken_fields types.now) }
+pub(crate) fn fields_rule(types: &Types<'_>, tails: &[Option<Tail>]) -> Option<u32>
+    requires { AreTails types.now 0 tails.now }
+    ensures { result ≡ broken_fields types.now }
 {
     let file = types.file();
-    let names = member_names(alloc, file)?;
     for i in 0..count(file, FIELD_IDS) {
-        if !holds_field(types, names.as_slice(), i) {
-            return Ok(Some(entry(file, FIELD_IDS, 8, i) as u32));
+        if !holds_field(types, tails, i) {
+            return Some(entry(file, FIELD_IDS, 8, i) as u32);
         }
     }
-    Ok(None)
+    None
 }
 
-/// Whether a method fits, with a flag for each string that is the name of a method.
-#[tactic(auto, unfolding(crate::specs::Facts::method_name_of))]
-fn fits_method(types: &Types<'_>, names: &[bool], i: usize) -> bool
+/// Whether a method fits.
+fn fits_method(
+    alloc: Global,
+    types: &Types<'_>,
+    tails: &[Option<Tail>],
+    i: usize,
+) -> Result<bool, AllocError>
     requires counted { i < count_at types.now method_ids }
-    requires names { AreFacts (method_name_of types.now) (count_at types.now string_ids) names.now }
-    ensures { result ≡ method_fits types.now (member_entry types.now method_ids i) }
+    requires tails { AreTails types.now 0 tails.now }
+    ensures { IfOk result (λ r. r ≡ method_fits types.now (member_entry types.now method_ids i)) }
 {
     let file = types.file();
     let class = class_of(file, METHOD_IDS, i);
-    class < types.count()
-        && types.is_reference(class)
-        && kind_of(file, METHOD_IDS, i) < count(file, PROTO_IDS)
-        && is_method_named(file, names, name_of(file, METHOD_IDS, i))
+    if class >= types.count() || !types.is_reference(class) {
+        return Ok(false);
+    }
+    let name = name_of(file, METHOD_IDS, i);
+    if kind_of(file, METHOD_IDS, i) >= count(file, PROTO_IDS) || name >= count(file, STRING_IDS) {
+        return Ok(false);
+    }
+    names_method(alloc, file, tails, name)
 }
 
 /// Whether a method fits and is behind the one before it.
-fn holds_method(types: &Types<'_>, names: &[bool], i: usize) -> bool
+fn holds_method(
+    alloc: Global,
+    types: &Types<'_>,
+    tails: &[Option<Tail>],
+    i: usize,
+) -> Result<bool, AllocError>
     requires counted { i < count_at types.now method_ids }
-    requires names { AreFacts (method_name_of types.now) (count_at types.now string_ids) names.now }
-    ensures { result ≡ method_holds types.now i }
+    requires tails { AreTails types.now 0 tails.now }
+    ensures { IfOk result (λ r. r ≡ method_holds types.now i) }
 {
-    fits_method(types, names, i) && rises(types.file(), METHOD_IDS, i)
+    if !fits_method(alloc, types, tails, i)? {
+        return Ok(false);
+    }
+    Ok(rises(types.file(), METHOD_IDS, i))
 }
 
 /// X16: methods fit and rise.
-pub(crate) fn methods_rule(alloc: Global, types: &Types<'_>) -> Result<Option<u32>, AllocError>
+pub(crate) fn methods_rule(
+    alloc: Global,
+    types: &Types<'_>,
+    tails: &[Option<Tail>],
+) -> Result<Option<u32>, AllocError>
+    requires { AreTails types.now 0 tails.now }
     ensures { IfOk result (λ r. r ≡ broken_methods types.now) }
 {
     let file = types.file();
-    let names = method_names(alloc, file)?;
     for i in 0..count(file, METHOD_IDS) {
-        if !holds_method(types, names.as_slice(), i) {
+        if !holds_method(alloc, types, tails, i)? {
             return Ok(Some(entry(file, METHOD_IDS, 8, i) as u32));
         }
     }

@@ -5,8 +5,9 @@ ghost use Rattle.std.specs.List.{position_or_len};
 ghost use Rattle.pi_format.specs.Tables.{table_holds, count_at, string_ids, type_ids, proto_ids, field_ids, method_ids, class_defs};
 ghost use Rattle.pi_format.specs.Rules.{asked, broken_tables_rule};
 ghost use Rattle.pi_format.specs.Rules.Entries.{entry_at};
-ghost use Rattle.pi_format.specs.Rules.Strings.{broken_types, broken_strings, string_bytes};
+ghost use Rattle.pi_format.specs.Rules.Strings.{broken_types, broken_strings, string_bytes, string_units};
 ghost use Rattle.pi_dexraw.specs.Asked.{Asks, Tells, header_rules, sum_rules, string_rules, id_rules, class_rules};
+ghost use Rattle.pi_dexraw.specs.Tails.{AreTails};
 ghost use Rattle.pi_dexraw.specs.Whole.{HasTables};
 
 use crate::bytes::word;
@@ -22,9 +23,12 @@ use crate::map::map_rule;
 use crate::members::{fields_rule, methods_rule};
 use crate::protos::protos_rule;
 use crate::strings::{string_order_rule, strings_rule, types_rule};
-use crate::texts::{head, text_place};
+use crate::tail::Tail;
+use crate::tails::tails;
+use crate::texts::{head, text_place, units};
 use crate::types::Types;
-use std::alloc::Global;
+use pi_model::listed::Units;
+use std::alloc::{AllocError, Global};
 use std::marker::Model;
 
 /// The bytes of a file of which the rules X1 to X17 hold.
@@ -85,32 +89,35 @@ fn ask_sums(file: &[u8]) -> Result<(), DexFault>
 
 /// Rules X10 to X13.
 #[tactic(auto, unfolding(crate::specs::Asked::string_rules))]
-fn ask_strings(alloc: Global, file: &[u8]) -> Result<(), DexFault>
-    requires { HasTables file.now }
+fn ask_strings(alloc: Global, file: &[u8], tails: &[Option<Tail>]) -> Result<(), DexFault>
+    requires tables { HasTables file.now }
+    requires tails { AreTails file.now 0 tails.now }
     ensures asks { Asks (string_rules file.now) result }
     ensures types { OnOk result (broken_types file.now ≡ None) }
 {
     ask(10, map_rule(alloc, file)?)?;
-    ask(11, strings_rule(alloc, file)?)?;
-    ask(12, string_order_rule(alloc, file)?)?;
-    ask(13, types_rule(alloc, file)?)
+    ask(11, strings_rule(file, tails))?;
+    ask(12, string_order_rule(alloc, file, tails)?)?;
+    ask(13, types_rule(file, tails))
 }
 
 /// Rules X14 and X15.
 #[tactic(auto, unfolding(crate::specs::Asked::id_rules))]
-fn ask_ids(alloc: Global, types: &Types<'_>) -> Result<(), DexFault>
+fn ask_ids(alloc: Global, types: &Types<'_>, tails: &[Option<Tail>]) -> Result<(), DexFault>
+    requires { AreTails types.now 0 tails.now }
     ensures { Asks (id_rules types.now) result }
 {
     ask(14, protos_rule(alloc, types)?)?;
-    ask(15, fields_rule(alloc, types)?)
+    ask(15, fields_rule(types, tails))
 }
 
 /// Rules X16 and X17.
 #[tactic(auto, unfolding(crate::specs::Asked::class_rules))]
-fn ask_classes(alloc: Global, types: &Types<'_>) -> Result<(), DexFault>
+fn ask_classes(alloc: Global, types: &Types<'_>, tails: &[Option<Tail>]) -> Result<(), DexFault>
+    requires { AreTails types.now 0 tails.now }
     ensures { Asks (class_rules types.now) result }
 {
-    ask(16, methods_rule(alloc, types)?)?;
+    ask(16, methods_rule(alloc, types, tails)?)?;
     ask(17, classes_rule(alloc, types)?)
 }
 
@@ -122,10 +129,11 @@ fn ask_all(alloc: Global, file: &[u8]) -> Result<(), DexFault>
 {
     ask_header(file)?;
     ask_sums(file)?;
-    ask_strings(alloc, file)?;
-    let types = Types::new(alloc, file)?;
-    ask_ids(alloc, &types)?;
-    ask_classes(alloc, &types)
+    let tails = tails(alloc, file)?;
+    ask_strings(alloc, file, tails.as_slice())?;
+    let types = Types::new(alloc, file, tails.as_slice())?;
+    ask_ids(alloc, &types, tails.as_slice())?;
+    ask_classes(alloc, &types, tails.as_slice())
 }
 
 /// The bytes of an entry.
@@ -197,6 +205,14 @@ impl<'a> Raw<'a> {
         ensures { result.now ≡ string_bytes self.now i }
     {
         text_bytes(self.bytes(), i as usize)
+    }
+
+    /// The units of a string.
+    pub fn units(&self, alloc: Global, i: u32) -> Result<Units, AllocError>
+        requires { i < count_at self.now string_ids }
+        ensures { IfOk result (λ units. units ≡ string_units self.now i) }
+    {
+        units(alloc, self.bytes(), i as usize)
     }
 
     /// How many strings there are.

@@ -336,3 +336,72 @@ fn the_sums_are_the_published_ones(rt: HostRuntime) {
     ];
     assert_eq!(rt; Sha1::digest(b"abc"), want);
 }
+
+/// Adds a text in which a text begins at each third offset or so, with its length as some of the units of the others.
+fn add_text(file: &mut Vec<u8>, last: u8) -> Result<(), Fail> {
+    for k in 0..2040u32 {
+        let behind = 4079 - 2 * k;
+        file.push(0xc2)?;
+        file.push(128 + (behind % 64) as u8)?;
+        file.push((behind / 128) as u8 | u8::from(behind < 128))?;
+    }
+    file.push(last)?;
+    file.push(0)?;
+    Ok(())
+}
+
+fn add_word(file: &mut Vec<u8>, word: u32) -> Result<(), Fail> {
+    file.extend_from_slice(&word.to_le_bytes())?;
+    Ok(())
+}
+
+/// Adds the offsets of the same texts in two such ones, in the order of their first two units.
+fn add_texts(file: &mut Vec<u8>) -> Result<(), Fail> {
+    for first in 0..31u32 {
+        for second in 1..32u32 {
+            let units = 2 * first + 3 + 128 * second;
+            let at = 3 * ((4079 - units) / 2) + 1;
+            add_word(file, 7800 + at)?;
+            add_word(file, 13922 + at)?;
+        }
+    }
+    Ok(())
+}
+
+/// A file of 20,072 bytes with 1,922 strings, which have four million units, since their texts overlap.
+fn overlapped(alloc: Global) -> Result<Vec<u8>, Fail> {
+    let mut file = Vec::from_slice(alloc, &FIVE[..112])?;
+    write(&mut file, 64, &[0; 48])?;
+    write(&mut file, 32, &20072u32.to_le_bytes())?;
+    write(&mut file, 52, &20044u32.to_le_bytes())?;
+    write(&mut file, 56, &1922u32.to_le_bytes())?;
+    add_texts(&mut file)?;
+    add_text(&mut file, b'a')?;
+    add_text(&mut file, b'b')?;
+    for word in [2, 0, 1, 0, 1, 1922, 112] {
+        add_word(&mut file, word)?;
+    }
+    sign(&mut file)?;
+    Ok(file)
+}
+
+#[test]
+fn texts_may_overlap(rt: HostRuntime) -> Result<(), Fail> {
+    let mut file = overlapped(rt.alloc())?;
+    if file.len() > 16777216 {
+        return Err(Fail::new("a long file"));
+    }
+    match Raw::new(rt.alloc(), file.as_slice()) {
+        Ok(raw) => assert_eq!(rt; raw.strings(), 1922),
+        Err(_) => return Err(Fail::new("overlapping texts were refused")),
+    }
+    // the last two exchanged, which differ in their last unit alone
+    write(&mut file, 7792, &13995u32.to_le_bytes())?;
+    write(&mut file, 7796, &7873u32.to_le_bytes())?;
+    sign(&mut file)?;
+    assert_eq!(rt;
+        fault_of(rt.alloc(), file.as_slice())?,
+        DexFault::Rule { rule: 12, at: 7796 }
+    );
+    Ok(())
+}

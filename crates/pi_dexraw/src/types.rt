@@ -6,14 +6,17 @@ ghost use Rattle.pi_format.specs.Rules.Strings.{type_units, broken_types};
 ghost use Rattle.pi_format.specs.Rules.Descriptors.{is_class_type, is_array_type, is_void, short_letter, words_of_type};
 ghost use Rattle.pi_format.specs.Rules.Members.{is_value_type};
 ghost use Rattle.pi_format.specs.Rules.Classes.{class_entry, is_object, is_defined_in, stands_earlier};
-ghost use Rattle.pi_dexraw.specs.Facts.{AreFacts, letter_of, first_unit, first_definition};
+ghost use Rattle.pi_dexraw.specs.Facts.{AreFacts, letter_of, first_definition};
+ghost use Rattle.pi_dexraw.specs.Tails.{AreTails};
 ghost use Rattle.pi_dexraw.specs.Whole.{HasTables};
 
 use crate::bytes::word;
 use crate::entries::{count, entry};
 use crate::facts::{fact, note, numbers};
 use crate::header::{CLASS_DEFS, TYPE_IDS};
-use crate::texts::{string_of_type, units};
+use crate::tail::Tail;
+use crate::tails::string;
+use crate::texts::string_of_type;
 use crate::type_lists::spells;
 use std::alloc::{AllocError, Global};
 use std::marker::Model;
@@ -42,38 +45,28 @@ const OBJECT: [u16; 18] = [
     76, 106, 97, 118, 97, 47, 108, 97, 110, 103, 47, 79, 98, 106, 101, 99, 116, 59,
 ];
 
-/// The first unit of a text, 0 where it has none.
-fn first_of(units: &[u16]) -> u16
-    ensures { result ≡ first_unit units.now }
-{
-    match units {
-        [] => 0,
-        [first, ..] => *first,
-    }
-}
-
 /// The first unit of a type.
-#[tactic(auto, using(crate::proofs::Known::type_in_range), unfolding(crate::specs::Facts::letter_of))]
-fn letter(alloc: Global, file: &[u8], t: usize) -> Result<u16, AllocError>
+#[tactic(auto, unfolding(crate::specs::Facts::letter_of))]
+fn letter(file: &[u8], tails: &[Option<Tail>], t: usize) -> u16
     requires tables { HasTables file.now }
     requires types { broken_types file.now ≡ None }
+    requires tails { AreTails file.now 0 tails.now }
     requires counted { t < count_at file.now type_ids }
-    ensures { IfOk result (λ r. r ≡ letter_of file.now t) }
+    ensures { result ≡ letter_of file.now t }
 {
-    let units = units(alloc, file, string_of_type(file, t))?;
-    Ok(first_of(units.as_slice()))
+    string(file, tails, string_of_type(file, t)).first
 }
 
 /// The first unit of each type.
-fn letters(alloc: Global, file: &[u8]) -> Result<Vec<u16>, AllocError>
+fn letters(alloc: Global, file: &[u8], tails: &[Option<Tail>]) -> Result<Vec<u16>, AllocError>
     requires tables { HasTables file.now }
     requires types { broken_types file.now ≡ None }
+    requires tails { AreTails file.now 0 tails.now }
     ensures { IfOk result (λ list. AreFacts (letter_of file.now) (count_at file.now type_ids) list.items) }
 {
     let mut list = Vec::new(alloc);
     for t in 0..count(file, TYPE_IDS) {
-        let letter = letter(alloc, file, t)?;
-        list.push(letter)?;
+        list.push(letter(file, tails, t))?;
     }
     Ok(list)
 }
@@ -103,12 +96,17 @@ fn firsts(alloc: Global, file: &[u8]) -> Result<Vec<u32>, AllocError>
 
 impl<'a> Types<'a> {
     /// Looks the types of a file up.
-    pub(crate) fn new(alloc: Global, file: &'a [u8]) -> Result<Types<'a>, AllocError>
+    pub(crate) fn new(
+        alloc: Global,
+        file: &'a [u8],
+        tails: &[Option<Tail>],
+    ) -> Result<Types<'a>, AllocError>
         requires tables { HasTables file.now }
         requires types { broken_types file.now ≡ None }
+        requires tails { AreTails file.now 0 tails.now }
         ensures { IfOk result (λ t. t ≡ file.now) }
     {
-        let letters = letters(alloc, file)?;
+        let letters = letters(alloc, file, tails)?;
         let firsts = firsts(alloc, file)?;
         Ok(Types {
             file,

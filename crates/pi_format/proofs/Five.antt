@@ -61,16 +61,16 @@ five_bytes =
     1 ∷ 0 ∷ 0 ∷ 0 ∷ 190 ∷ 1 ∷ 0 ∷ 0 ∷ 0 ∷ 16 ∷ 0 ∷ 0 ∷ 1 ∷ 0 ∷ 0 ∷ 0 ∷
     208 ∷ 1 ∷ 0 ∷ 0 ∷ []
 
-line : ℕ → ℕ → Insn → Line
+unfoldable pub line : ℕ → ℕ → Insn → Line
 line at units insn = record { at = at; units = units; insn = insn }
 
-x_field : FieldRef
+unfoldable pub x_field : FieldRef
 x_field = record { class = name_no 8; name = name_no 11; ty = int_name }
 
-print_ref : MethodRef
+unfoldable pub print_ref : MethodRef
 print_ref = record { class = out_name; name = print_name; params = int_name ∷ []; ret = void_name }
 
-clinit_code : Code
+unfoldable pub clinit_code : Code
 clinit_code = record {
   regs = 1;
   ins = 0;
@@ -80,7 +80,7 @@ clinit_code = record {
   insns = line 0 1 (Const 0 5) ∷ line 1 2 (Sput Plain 0 x_field) ∷ line 3 1 ReturnVoid ∷ [];
 }
 
-main_code : Code
+unfoldable pub main_code : Code
 main_code = record {
   regs = 2;
   ins = 1;
@@ -90,7 +90,7 @@ main_code = record {
   insns = line 0 2 (Sget Plain 0 x_field) ∷ line 2 3 (Invoke Static print_ref (0 ∷ [])) ∷ line 5 1 ReturnVoid ∷ [];
 }
 
-five_class : ClassDesc
+unfoldable pub five_class : ClassDesc
 five_class = record {
   file = record { 0 = 1 };
   name = name_no 8;

@@ -4,3 +4,5 @@ pub mod Shapes
 mod Used
 pub mod Behind
 pub mod Kept
+mod Said
+pub mod Held

@@ -9,3 +9,4 @@ pub mod ClassData
 pub mod Small
 pub mod Shape
 pub mod Rules
+pub mod Says

@@ -5,6 +5,10 @@ use Rattle.pi_format.specs.Rules.Map.{broken_map}
 use Rattle.pi_format.specs.Rules.Strings.{broken_strings, broken_string_order, broken_types}
 use Rattle.pi_format.specs.Rules.Members.{broken_protos, broken_fields, broken_methods}
 use Rattle.pi_format.specs.Rules.Classes.{broken_classes}
+use Rattle.pi_format.specs.Rules.ClassData.{broken_class_data}
+use Rattle.pi_format.specs.Rules.Values.{broken_values}
+use Rattle.pi_format.specs.Rules.CodeItems.{broken_code}
+use Rattle.pi_format.specs.Rules.Pieces.{broken_walk, broken_index, broken_payload}
 pub mod Entries
 pub mod Header
 pub mod Map
@@ -12,6 +16,13 @@ pub mod Descriptors
 pub mod Strings
 pub mod Members
 pub mod Classes
+pub mod Flags
+pub mod Lowest
+pub mod Rows
+pub mod ClassData
+pub mod Values
+pub mod CodeItems
+pub mod Pieces
 
 -- a broken rule by its number, and the offset that is named with it
 pub record Broken : Type 0 where
@@ -31,3 +42,18 @@ broken_tables_rule file =
     (asked 9 (broken_data file) (asked 10 (broken_map file) (asked 11 (broken_strings file) (asked 12 (broken_string_order file)
     (asked 13 (broken_types file) (asked 14 (broken_protos file) (asked 15 (broken_fields file) (asked 16 (broken_methods file)
     (asked 17 (broken_classes file) None))))))))))))))))
+
+-- rules X18 to X23, of a file whose tables hold
+unfoldable pub broken_content_rule : List ℕ → Option Broken
+broken_content_rule file =
+    asked 18 (broken_class_data file) (asked 19 (broken_values file) (asked 20 (broken_code file) (asked 21 (broken_walk file)
+    (asked 22 (broken_index file) (asked 23 (broken_payload file) None)))))
+
+-- what rules on tables say, or else the rules on what they lead to
+abbrev pub or_else : Option Broken → Option Broken → Option Broken
+or_else None later = later
+or_else (Some broken) later = Some broken
+
+-- all rules, X1 to X23
+abbrev pub broken_rule : List ℕ → Option Broken
+broken_rule file = or_else (broken_tables_rule file) (broken_content_rule file)

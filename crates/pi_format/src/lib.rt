@@ -2,6 +2,8 @@
 // stand in specs/, and docs/dex-format.md states them in words. The functions here state laws of them.
 #![tactic(auto)]
 
+pub mod lists;
+
 ghost use Rattle.std.specs.Prelude.{◌≡◌, ◌<◌, ◌≤◌, ℕ, List, length, Some, slice_index};
 ghost use Rattle.pi_model.specs.Program.{Program};
 ghost use Rattle.pi_model.specs.Valid.{IsProgram};

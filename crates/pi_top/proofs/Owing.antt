@@ -15,12 +15,12 @@ use Rattle.pi_duty.specs.Lines.{usage_line, missing_line, read_fault_line, made_
 use Rattle.pi_duty.specs.Duty.{Contents, Owed, RunOwes, FileOwes, LengthOwes, LazyOwes, ended, end_status, end_lines, lazy_setting, most_bytes, refused}
 use Rattle.pi_top.specs.declared.plain.run.RunEnd.{RunEnd}
 use Rattle.pi_top.specs.declared.plain.run.RunEnd.TheVariants.{Returned, Limited, OutFault}
-use Rattle.pi_dex.specs.declared.fault.SmallFault.{SmallFault}
-use Rattle.pi_dex.specs.declared.fault.SmallFault.TheVariants.{OutOfMemory, NotSmall}
+use Rattle.pi_small.specs.declared.fault.SmallFault.{SmallFault}
+use Rattle.pi_small.specs.declared.fault.SmallFault.TheVariants.{OutOfMemory, NotSmall}
 use Rattle.pi_top.specs.declared.outcome.Outcome.{Outcome}
 use Rattle.pi_top.specs.declared.outcome.Outcome.TheVariants.{Usage, Missing, ReadFault, TooLarge, Memory, NotBuilt, Ran}
 use Rattle.pi_top.specs.Answer.{RunEnds, AnswersRun, OwesOver, Answered, ends_run, is_owed}
-use Rattle.pi_dex.specs.Says.{Says}
+use Rattle.pi_small.specs.Says.{Says}
 use Rattle.pi_top.specs.Outcome.{Gives, EndGives, FileGives, OutcomeGives, status_of, lines_of}
 
 run_owes : (p : Program) (steps : ℕ) (main : Option ℕ) (method : ℕ) (f : Finish) → main ≡ Some method → EndsWith p (lazy_setting steps) method [] f → RunOwes p steps main (ended p f)

@@ -7,8 +7,8 @@ use Rattle.pi_duty.specs.Lines.{usage_line, missing_line, read_fault_line, too_l
 use Rattle.pi_duty.specs.Duty.{Contents, Owed}
 use Rattle.pi_top.specs.declared.plain.run.RunEnd.{RunEnd}
 use Rattle.pi_top.specs.declared.plain.run.RunEnd.TheVariants.{Returned, Limited, OutFault}
-use Rattle.pi_dex.specs.declared.fault.SmallFault.{SmallFault}
-use Rattle.pi_dex.specs.declared.fault.SmallFault.TheVariants.{OutOfMemory, NotSmall}
+use Rattle.pi_small.specs.declared.fault.SmallFault.{SmallFault}
+use Rattle.pi_small.specs.declared.fault.SmallFault.TheVariants.{OutOfMemory, NotSmall}
 use Rattle.pi_top.specs.declared.outcome.Outcome.{Outcome}
 use Rattle.pi_top.specs.declared.outcome.Outcome.TheVariants.{Usage, Missing, ReadFault, TooLarge, Memory, NotBuilt, Ran}
 use Rattle.pi_top.specs.Answer.{OwesOver, Answered, Cuts}

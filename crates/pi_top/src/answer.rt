@@ -13,9 +13,9 @@ use crate::plain::run::RunEnd;
 use crate::plain::run_small;
 use pi_base::outside::{Sink, Store, StoreError};
 use pi_base::status::Status;
-use pi_dex::{SmallFault, read_small};
 use pi_duty::owes_once;
 use pi_format::small_shape;
+use pi_small::{SmallFault, read_small};
 use std::alloc::Global;
 
 /// The longest file that is read.

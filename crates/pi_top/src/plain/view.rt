@@ -9,10 +9,10 @@ ghost use Rattle.pi_top.specs.Roles.{method_named, HasMain, SeesClass};
 ghost use Rattle.pi_top.specs.Seen.{view_of, plain_of};
 
 use crate::plain::place::{Frame, Place, Small, Stage};
-use pi_dex::{CLINIT, MAIN};
 use pi_model::describe::{Code, MethodDesc};
 use pi_model::numbers::{ClassNo, NameNo};
 use pi_model::prog::Prog;
+use pi_small::{CLINIT, MAIN};
 use std::alloc::{AllocError, Global};
 
 /// The class of a small file stands behind the two of the first file.

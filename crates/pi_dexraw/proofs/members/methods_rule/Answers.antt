@@ -6,20 +6,20 @@ use Rattle.pi_dexraw.proofs.Loops.{bad_goes}
 use Rattle.pi_dexraw.proofs.Places.{rule_stops, rule_ends}
 use Rattle.pi_dexraw.proofs.members.methods_rule.Goals as goal
 
-pub returns-then-not-holds_method : goal.returns-then-not-holds_method
-returns-then-not-holds_method c =
+pub returns-then-not-branch : goal.returns-then-not-branch
+returns-then-not-branch c =
     let file = c.args.types.now in
     let n : c.count-i-end.result ≡ count_at file method_ids = c.count-i-end.ensures.value ∙ ap (λ (f : List ℕ). count_at f method_ids) c.file-file.ensures.same in
     let lt : c.loop-i.i < count_at file method_ids = omega (arith, n) in
     let place = c.entry.ensures.value ∙ ap (λ (f : List ℕ). entry_at f method_ids 8 c.loop-i.i) c.file-file.ensures.same in
-    ap Some place ∙ sym (rule_stops file method_ids 8 c.loop-i.i (method_holds file) lt (sym c.holds_method.ensures ∙ c.if-not-holds_method.true) c.loop-i.invariant)
+    ap Some place ∙ sym (rule_stops file method_ids 8 c.loop-i.i (method_holds file) lt (sym c.in_ok-holds_method.ensures ∙ c.if-not-branch.true) c.loop-i.invariant)
 
 pub loop-i-preserved : goal.loop-i-preserved
 loop-i-preserved c =
     let file = c.args.types.now in
     let n : c.count-i-end.result ≡ count_at file method_ids = c.count-i-end.ensures.value ∙ ap (λ (f : List ℕ). count_at f method_ids) c.file-file.ensures.same in
     let lt : c.loop-i.i < count_at file method_ids = omega (arith, n) in
-    let held = sym c.holds_method.ensures ∙ c.if-not-holds_method.false in
+    let held = sym c.in_ok-holds_method.ensures ∙ c.if-not-branch.false in
     bad_goes (method_holds file) c.loop-i.i (count_at file method_ids) lt held ∙ c.loop-i.invariant
 
 pub returns : goal.returns

@@ -3,6 +3,6 @@ use Rattle.pi_format.specs.Tables.{count_at, string_ids}
 use Rattle.pi_dexraw.proofs.Known.{type_in_range}
 use Rattle.pi_dexraw.proofs.types.letter.Goals as goal
 
-pub units-requires-clause-counted : goal.units-requires-clause-counted
-units-requires-clause-counted c =
+pub string-requires-clause-counted : goal.string-requires-clause-counted
+string-requires-clause-counted c =
     subst (λ (s : ℕ). s < count_at c.args.file.now string_ids) (sym c.string_of_type.ensures) (type_in_range c.args.file.now c.args.t c.requires.types c.requires.counted)

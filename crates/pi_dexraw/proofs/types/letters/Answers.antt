@@ -7,7 +7,7 @@ use Rattle.pi_dexraw.proofs.types.letters.Goals as goal
 pub loop-t-preserved : goal.loop-t-preserved
 loop-t-preserved c =
     let items = c.in_ok-push.ensures.items in
-    rw items (facts_pushed (letter_of c.args.file.now) c.loop-t.t c.loop-t.list.items c.in_ok-letter.letter c.loop-t.invariant c.in_ok-letter.ensures)
+    rw items (facts_pushed (letter_of c.args.file.now) c.loop-t.t c.loop-t.list.items c.letter.result c.loop-t.invariant c.letter.ensures)
 
 pub returns : goal.returns
 returns c =

@@ -1,7 +1,7 @@
 use Rattle.std.proofs.Common.{ap, Ok, Err}
 use Rattle.pi_duty.specs.Words.{LazyWords}
 use Rattle.pi_top.specs.declared.command.LazyCall.{LazyCall}
-use Rattle.pi_dex.specs.declared.fault.SmallFault.TheVariants.{NotSmall}
+use Rattle.pi_small.specs.declared.fault.SmallFault.TheVariants.{NotSmall}
 use Rattle.pi_top.proofs.Owing.{file_over, missing_gives, large_gives}
 use Rattle.pi_top.proofs.answer.answer_lazy.Goals as goal
 
