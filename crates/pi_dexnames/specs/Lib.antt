@@ -1,0 +1,2 @@
+-- One text more.
+pub mod Noting

@@ -1,0 +1,5 @@
+mod Places
+mod Halves
+mod Kept
+mod Texts
+mod Filled

@@ -1,0 +1,2 @@
+-- What a view of a file keeps.
+pub mod Facts
