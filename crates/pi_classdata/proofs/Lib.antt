@@ -1,0 +1,7 @@
+mod Types
+mod Chains
+mod Merged
+mod Places
+mod Loops
+mod Fits
+mod Members

@@ -1,0 +1,30 @@
+-- Rows and values that are judged as they are read.
+use Rattle.std.specs.Prelude.{◌≡◌, ℕ, ◌&&◌, List, [], ◌∷◌, Option, Some, None, Bool, true, if◌then◌else◌}
+use Rattle.pi_bytes.specs.Place.{Place}
+use Rattle.pi_format.specs.Bytes.{◌>>=◌}
+use Rattle.pi_format.specs.declared.lists.MemberList.{MemberList}
+use Rattle.pi_format.specs.Rules.Rows.{MemberRow, is_behind, member_row}
+use Rattle.pi_format.specs.Rules.ClassData.{Owner, row_holds}
+use Rattle.pi_format.specs.Rules.Values.{EncodedValue, encoded_value, value_fits, field_type}
+
+-- a call answers what was to be read, with the new place behind it, or nothing where there is nothing
+abbrev pub Reads : {A : Type 0} → Option (A × Place) → Place → Option A → Type 0
+Reads read new (Some x) = read ≡ Some (x, new)
+Reads read new None = read ≡ None
+
+-- the next row, if it is behind the one before it and holds
+unfoldable pub held_row : List ℕ → Owner → MemberList → Option ℕ → Place → Option (MemberRow × Place)
+held_row file o list before p = do
+  row ← member_row list before p
+  if is_behind before row.0.id && row_holds file o list row.0 then Some row else None
+
+-- the ids of rows rise
+abbrev pub rise : Option ℕ → List MemberRow → Bool
+rise before [] = true
+rise before (row ∷ rows) = is_behind before row.id && rise (Some row.id) rows
+
+-- the next value, if it fits a field
+unfoldable pub held_value : List ℕ → MemberRow → Place → Option (EncodedValue × Place)
+held_value file field p = do
+  value ← encoded_value p
+  if value_fits file (field_type file field.id) value.0 then Some value else None

@@ -1,0 +1,3 @@
+-- What calls read, in words that several of them share.
+pub mod Held
+pub mod There

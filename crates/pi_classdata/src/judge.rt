@@ -1,0 +1,232 @@
+// Whether a row of class data holds. docs/dex-format.md states what is asked of each list.
+
+ghost use Rattle.std.specs.Prelude.{◌≡◌, ◌<◌, ◌==◌, ◌&&◌, not, length, true, IsTrue};
+ghost use Rattle.pi_format.specs.Tables.{count_at, class_defs, string_ids, proto_ids, field_ids, method_ids};
+ghost use Rattle.pi_format.specs.Rules.Entries.{list_fits, list_at};
+ghost use Rattle.pi_format.specs.Rules.Descriptors.{is_void};
+ghost use Rattle.pi_format.specs.Rules.Members.{member_entry, proto_entry};
+ghost use Rattle.pi_format.specs.Rules.ClassData.{owner, is_field_of, is_method_of, listed_method, is_constructor, is_initialiser, is_direct, code_agrees, has_no_params, method_proto, initialiser_fits, constructor_fits, interface_fits, method_fits, row_holds};
+ghost use Rattle.pi_format.specs.declared.lists.MemberList.TheVariants.{StaticFields, InstanceFields, DirectMethods, VirtualMethods};
+
+use crate::flags::AccessFlags;
+use pi_dexview::{Member, View, word};
+use pi_format::lists::MemberList;
+use std::marker::Model;
+
+/// The class that lists members: its type, and whether it is an interface.
+#[derive(Drop)]
+pub(crate) struct Owner {
+    class: u32,
+    interface: bool,
+}
+
+impl Model for Owner {
+    ghost use Rattle.pi_format.specs.Rules.ClassData.{Owner};
+
+    ghost Value = { Owner };
+
+    ghost view = { λ o. record { class = o.class; interface = o.interface } };
+}
+
+/// A row as it was read. Its number may be one that no table has.
+#[derive(Drop)]
+pub(crate) struct ReadRow {
+    pub(crate) id: u64,
+    pub(crate) flags: u32,
+    pub(crate) code: u32,
+}
+
+impl Model for ReadRow {
+    ghost use Rattle.pi_format.specs.Rules.Rows.{MemberRow};
+
+    ghost Value = { MemberRow };
+
+    ghost view = { λ row. record { id = row.id; flags = row.flags; code = row.code } };
+}
+
+/// The class of a definition.
+pub(crate) fn owner_of(view: &View<'_>, i: u32) -> Owner
+    requires { i < count_at view.now class_defs }
+    ensures { result ≡ owner view.now i }
+{
+    let def = view.class_def(i);
+    Owner {
+        class: def.class,
+        interface: AccessFlags(def.flags).is_interface(),
+    }
+}
+
+/// Whether there is a field of that number, and it belongs to a class.
+fn is_field(view: &View<'_>, class: u32, id: u64) -> bool
+    ensures value { result ≡ is_field_of view.now class id }
+    ensures small { IsTrue result → id < 4294967296 }
+{
+    id < view.fields() as u64 && view.field(id as u32).class == class
+}
+
+/// Whether there is a method of that number, and it belongs to a class.
+fn is_method(view: &View<'_>, class: u32, id: u64) -> bool
+    ensures value { result ≡ is_method_of view.now class id }
+    ensures small { IsTrue result → id < 4294967296 }
+{
+    id < view.methods() as u64 && view.method(id as u32).class == class
+}
+
+/// The method of a row.
+fn method_of(view: &View<'_>, row: &ReadRow) -> Member
+    requires { row.now.id < count_at view.now method_ids }
+    ensures value { result ≡ member_entry view.now method_ids row.now.id }
+    ensures kind { result.kind < count_at view.now proto_ids }
+    ensures name { result.name < count_at view.now string_ids }
+{
+    prove!(row.id < view.methods() as u64);
+    view.method(row.id as u32)
+}
+
+/// Whether a method is named `<init>`.
+fn is_constructor(view: &View<'_>, row: &ReadRow) -> bool
+    requires { row.now.id < count_at view.now method_ids }
+    ensures { result ≡ is_constructor (listed_method view.now row.now) }
+{
+    view.is_constructor_name(method_of(view, row).name)
+}
+
+/// Whether a method is named `<clinit>`.
+fn is_initialiser(view: &View<'_>, row: &ReadRow) -> bool
+    requires { row.now.id < count_at view.now method_ids }
+    ensures { result ≡ is_initialiser (listed_method view.now row.now) }
+{
+    view.is_initialiser_name(method_of(view, row).name)
+}
+
+/// Whether a method returns nothing.
+fn returns_nothing(view: &View<'_>, row: &ReadRow) -> bool
+    requires { row.now.id < count_at view.now method_ids }
+    ensures { result ≡ is_void (listed_method view.now row.now).ret }
+{
+    view.begins_with(b'V', view.proto(method_of(view, row).kind).ret)
+}
+
+/// Whether there is no type in the list at an offset, as none is at 0.
+#[tactic(auto, using(crate::proofs::Types::list_in_file, crate::proofs::Types::no_types))]
+fn has_no_types(file: &[u8], at: usize) -> bool
+    requires fits { list_fits file.now at ≡ true }
+    requires small { at < 4294967296 }
+    ensures { result ≡ (length (list_at file.now at) == 0) }
+{
+    at == 0 || word(file, at) == 0
+}
+
+/// The offset of the types of a method's parameters.
+fn params_at(view: &View<'_>, row: &ReadRow) -> u32
+    requires { row.now.id < count_at view.now method_ids }
+    ensures value { result ≡ (proto_entry view.now (method_proto view.now row.now.id)).params }
+    ensures there { method_proto view.now row.now.id < count_at view.now proto_ids }
+{
+    view.proto(method_of(view, row).kind).params
+}
+
+/// Whether a method takes nothing.
+fn takes_nothing(view: &View<'_>, row: &ReadRow) -> bool
+    requires { row.now.id < count_at view.now method_ids }
+    ensures { result ≡ has_no_params (listed_method view.now row.now) }
+{
+    has_no_types(view.file(), params_at(view, row) as usize)
+}
+
+/// Whether a method is static, private or a constructor.
+fn is_direct(view: &View<'_>, row: &ReadRow) -> bool
+    requires { row.now.id < count_at view.now method_ids }
+    ensures { result ≡ is_direct (listed_method view.now row.now) }
+{
+    let flags = AccessFlags(row.flags);
+    flags.is_static() || flags.is_private() || is_constructor(view, row)
+}
+
+/// Whether a method has code exactly where it is neither native nor abstract.
+fn agrees_on_code(view: &View<'_>, row: &ReadRow) -> bool
+    ensures { result ≡ code_agrees (listed_method view.now row.now) }
+{
+    let flags = AccessFlags(row.flags);
+    let is_elsewhere = flags.is_native() || flags.is_abstract();
+    if row.code == 0 {
+        is_elsewhere
+    } else {
+        !is_elsewhere
+    }
+}
+
+/// Whether a method is static, takes nothing and returns nothing, if it is an initialiser.
+fn fits_initialiser(view: &View<'_>, row: &ReadRow) -> bool
+    requires { row.now.id < count_at view.now method_ids }
+    ensures { result ≡ initialiser_fits (listed_method view.now row.now) }
+{
+    !is_initialiser(view, row)
+        || AccessFlags(row.flags).is_static()
+            && takes_nothing(view, row)
+            && returns_nothing(view, row)
+}
+
+/// Whether a method is flagged and returns nothing, if it is a constructor.
+fn fits_constructor(view: &View<'_>, row: &ReadRow) -> bool
+    requires { row.now.id < count_at view.now method_ids }
+    ensures { result ≡ constructor_fits (listed_method view.now row.now) }
+{
+    !is_constructor(view, row)
+        || AccessFlags(row.flags).is_constructor() && returns_nothing(view, row)
+}
+
+/// Whether a method is abstract or the initialiser, if its class is an interface.
+fn fits_interface(view: &View<'_>, owner: &Owner, row: &ReadRow) -> bool
+    requires { row.now.id < count_at view.now method_ids }
+    ensures { result ≡ interface_fits owner.now.interface (listed_method view.now row.now) }
+{
+    !owner.interface || AccessFlags(row.flags).is_abstract() || is_initialiser(view, row)
+}
+
+/// Whether a method fits its name, its code and its class.
+#[tactic(auto, unfolding(pi_format::specs::Rules::ClassData::method_fits))]
+fn fits(view: &View<'_>, owner: &Owner, row: &ReadRow) -> bool
+    requires { row.now.id < count_at view.now method_ids }
+    ensures { result ≡ method_fits owner.now.interface (listed_method view.now row.now) }
+{
+    agrees_on_code(view, row)
+        && fits_initialiser(view, row)
+        && fits_constructor(view, row)
+        && fits_interface(view, owner, row)
+}
+
+/// Whether a row of direct methods holds.
+fn is_direct_row(view: &View<'_>, owner: &Owner, row: &ReadRow) -> bool
+    ensures value { result ≡ row_holds view.now owner.now DirectMethods row.now }
+    ensures small { IsTrue result → row.now.id < 4294967296 }
+{
+    is_method(view, owner.class, row.id)
+        && is_direct(view, row)
+        && !AccessFlags(row.flags).is_abstract()
+        && fits(view, owner, row)
+}
+
+/// Whether a row of virtual methods holds.
+fn is_virtual_row(view: &View<'_>, owner: &Owner, row: &ReadRow) -> bool
+    ensures value { result ≡ row_holds view.now owner.now VirtualMethods row.now }
+    ensures small { IsTrue result → row.now.id < 4294967296 }
+{
+    is_method(view, owner.class, row.id) && !is_direct(view, row) && fits(view, owner, row)
+}
+
+/// Whether a row is one of its list: a member of the class, of the kind that the list has.
+pub(crate) fn holds(view: &View<'_>, owner: &Owner, list: MemberList, row: &ReadRow) -> bool
+    ensures value { result ≡ row_holds view.now owner.now list row.now }
+    ensures small { IsTrue result → row.now.id < 4294967296 }
+{
+    let is_static = AccessFlags(row.flags).is_static();
+    match list {
+        MemberList::StaticFields => is_field(view, owner.class, row.id) && is_static,
+        MemberList::InstanceFields => {
+            is_field(view, owner.class, row.id) && !is_static && !owner.interface
+        }
+        MemberList::DirectMethods => is_direct_row(view, owner, row),
+        MemberList::VirtualMethods => is_virtual_row(view, owner, row),
+    }
+}

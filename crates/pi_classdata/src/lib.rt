@@ -1,0 +1,22 @@
+// The class data and the static values of the classes of a file, by the rules X18 and X19 of docs/dex-format.md.
+#![tactic(auto)]
+
+mod apart;
+#[cfg(test)]
+mod file;
+mod flags;
+mod judge;
+mod laws;
+mod read;
+mod rows;
+mod table;
+#[cfg(test)]
+mod tests;
+mod values;
+
+pub use flags::AccessFlags;
+pub use laws::{rows_are_members, values_are_there};
+pub use read::class_rows;
+pub use rows::{ClassRows, MemberRow};
+pub use table::{RowTable, read_rows};
+pub use values::{EncodedValue, Values, class_values, values_rule};
