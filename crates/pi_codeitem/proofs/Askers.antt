@@ -1,0 +1,74 @@
+-- Which payloads instructions may point at, and the first instruction that breaks a test.
+use Rattle.std.proofs.Common.{◌≡◌, ℕ, zero, suc, ◌+◌, ◌<◌, List, [], ◌∷◌, length, drop, get_or, Bool, true, false, Option, Some, None, refl, sym, ap, ◌∙◌, arith, subst, drop-cons, add-one}
+use Rattle.std.specs.Prelude.{◌==◌, ◌&&◌, ◌%◌, ℤ, pos, ◌+ℤ◌, slice_get, find, if◌then◌else◌}
+use Rattle.std.proofs.lemmas.Bool.Decides.{nat_tests}
+use Rattle.pi_insn.specs.declared.raw.RawInsn.{RawInsn}
+use Rattle.pi_insn.specs.Payloads.{PackedData, SparseData, ArrayData}
+use Rattle.pi_format.specs.Rules.Pieces.{Piece, What, Instruction, Payload, keys_rise, payload_fits, payload_found, address, payload_of, first_insn}
+use Rattle.pi_codeitem.specs.Asking.{asker, data_in, payload_in, passes}
+
+-- an opcode asks for another
+abbrev pub asks : ℕ → Option ℕ → Bool
+asks op None = false
+asks op (Some a) = op == a
+
+pub asker_fits : (op : ℕ) (w : What) → asks op (asker w) ≡ payload_fits op (data_in w)
+asker_fits op (Instruction i) = refl
+asker_fits op (Payload (PackedData first targets)) = refl
+asker_fits op (Payload (ArrayData width size items)) = refl
+asker_fits op (Payload (SparseData keys targets)) = by_keys (keys_rise keys)
+  where
+    and_true : (b : Bool) → b ≡ (b && true)
+    and_true true = refl
+    and_true false = refl
+
+    and_false : (b : Bool) → false ≡ (b && false)
+    and_false true = refl
+    and_false false = refl
+
+    by_keys : (b : Bool) → asks op (if b then Some 0x2c else None) ≡ ((op == 0x2c) && b)
+    by_keys true = and_true (op == 0x2c)
+    by_keys false = and_false (op == 0x2c)
+
+-- the payload at an address is that of the piece there
+found_first : (a units at : ℕ) (w : What) (ps : List Piece) (b : Bool) → (a == at) ≡ b → payload_found ps at ≡ payload_in (find (λ (p : Piece). p.at == at) ps)
+    → payload_found (record { at = a; units = units; what = w } ∷ ps) at ≡ payload_in (find (λ (p : Piece). p.at == at) (record { at = a; units = units; what = w } ∷ ps))
+found_first a units at (Instruction i) ps true e later = rw e refl
+found_first a units at (Payload d) ps true e later = rw e refl
+found_first a units at w ps false e later = rw e later
+
+found_in : (pieces : List Piece) (at : ℕ) → payload_found pieces at ≡ payload_in (find (λ (p : Piece). p.at == at) pieces)
+found_in [] at = refl
+found_in (p ∷ ps) at = found_first p.at p.units at p.what ps (p.at == at) refl (found_in ps at)
+
+pub even_found : (pieces : List Piece) (at place : ℕ) (dist : ℤ) (o : Option Piece) → address (pos at +ℤ dist) ≡ Some place → place % 2 ≡ 0
+    → o ≡ find (λ (p : Piece). p.at == place) pieces → payload_of pieces at dist ≡ payload_in o
+even_found pieces at place dist o there even e =
+    let t : (place % 2 == 0) ≡ true = grind (arith, nat_tests) in
+    rw (there, t) (found_in pieces place ∙ ap payload_in (sym e))
+
+first_is : (test : ℕ → RawInsn → Bool) (at units : ℕ) (w : What) (ps : List Piece)
+    → first_insn test (record { at = at; units = units; what = w } ∷ ps) ≡ (if passes test (record { at = at; units = units; what = w }) then first_insn test ps else Some at)
+first_is test at units (Instruction i) ps = refl
+first_is test at units (Payload d) ps = refl
+
+first_at : (test : ℕ → RawInsn → Bool) (pieces : List Piece) (k : ℕ) (p : Piece) → k < length pieces → p ≡ get_or pieces k p
+    → first_insn test (drop k pieces) ≡ (if passes test p then first_insn test (drop (k + 1) pieces) else Some p.at)
+first_at test pieces k p lt is =
+    let e : drop k pieces ≡ p ∷ drop (k + 1) pieces = rw (add-one, drop-cons pieces k p) (ap (λ (q : Piece). q ∷ drop (suc k) pieces) (sym is)) in
+    rw e (first_is test p.at p.units p.what (drop (k + 1) pieces))
+
+-- where no instruction breaks a test, each passes it
+none_first : (b : Bool) (at : ℕ) (later : Option ℕ) → (if b then later else Some at) ≡ None → (b ≡ true) × (later ≡ None)
+none_first true at later e = (refl, e)
+none_first false at later e = cc
+
+pub all_pass : (test : ℕ → RawInsn → Bool) (pieces : List Piece) → first_insn test pieces ≡ None → (k : ℕ) (p : Piece) → slice_get pieces k ≡ Some p → passes test p ≡ true
+all_pass test [] e k p is = cc
+all_pass test (first ∷ others) e zero p is =
+    let e' = none_first (passes test first) first.at (first_insn test others) (sym (first_is test first.at first.units first.what others) ∙ e) in
+    let same : first ≡ p = cc in
+    subst (λ (q : Piece). passes test q ≡ true) same e'.0
+all_pass test (first ∷ others) e (suc k) p is =
+    let e' = none_first (passes test first) first.at (first_insn test others) (sym (first_is test first.at first.units first.what others) ∙ e) in
+    all_pass test others e'.1 k p is

@@ -1,0 +1,11 @@
+-- Lemmas on code items.
+pub mod Loops
+pub mod Items
+pub mod Fronts
+pub mod Finds
+pub mod Walked
+pub mod Readers
+pub mod Listing
+pub mod Askers
+pub mod Filled
+pub mod Served

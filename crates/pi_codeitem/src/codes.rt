@@ -1,0 +1,106 @@
+// The handler lists of a code item, and whether a code item holds for a method.
+
+ghost use Rattle.std.specs.Prelude.{◌≡◌, ◌+◌, ◌*◌, ◌<◌, ◌≤◌, ◌≢◌, ◌==◌, ◌&&◌, nat_le, nat_lt, length, true, IfOk};
+ghost use Rattle.pi_format.specs.Rules.CodeItems.{code_head, code_lies, code_lists, code_holds, tries_at, try_range, is_list_at, ranges_have_lists};
+
+use crate::handler_lists::HandlerLists;
+use crate::heads::{CodeHead, head, lies};
+use crate::ranges::{lists_at, range, ranges_hold, tries_at};
+use crate::reading::lists;
+use std::alloc::{AllocError, Global};
+
+/// Whether the list of a range is one of those that stand behind the ranges.
+fn has_list(file: &[u8], begin: usize, place: usize, k: usize, lists: &HandlerLists) -> bool
+    requires inside { begin + 8 * k + 8 ≤ length file.now }
+    requires place { place ≤ 16777216 }
+    ensures { result ≡ is_list_at lists.now (place + (try_range file.now begin k).handlers) }
+{
+    let range = range(file, begin, k);
+    lists.has((place + range.handlers as usize) as u32)
+}
+
+/// Whether each range has one of the lists.
+fn have_lists(file: &[u8], at: usize, head: &CodeHead, lists: &HandlerLists) -> bool
+    requires small { at < 4294967296 }
+    requires file { length file.now ≤ 16777216 }
+    requires inside { tries_at at head.now + 8 * head.now.tries ≤ length file.now }
+    ensures { result ≡ ranges_have_lists file.now at head.now lists.now }
+{
+    let begin = tries_at(at, head);
+    let place = lists_at(at, head);
+    for k in 0..head.tries as usize {
+        if !has_list(file, begin, place, k, lists) {
+            return false;
+        }
+    }
+    true
+}
+
+/// The handler lists of a code item that has ranges.
+fn of_ranges(
+    alloc: Global,
+    file: &[u8],
+    at: usize,
+    head: &CodeHead,
+) -> Result<Option<HandlerLists>, AllocError>
+    requires header { 112 ≤ length file.now }
+    requires file { length file.now ≤ 16777216 }
+    requires small { at < 4294967296 }
+    requires head { head.now ≡ code_head file.now at }
+    requires some { head.now.tries ≢ 0 }
+    ensures { IfOk result (λ r. r ≡ code_lists file.now at) }
+{
+    if !ranges_hold(file, at, head) {
+        return Ok(None);
+    }
+    let Some(lists) = lists(alloc, file, head.units, lists_at(at, head))? else {
+        return Ok(None);
+    };
+    if !have_lists(file, at, head, &lists) {
+        return Ok(None);
+    }
+    Ok(Some(lists))
+}
+
+/// The handler lists of a code item, none where it has no ranges; None where they or the ranges do not hold.
+pub fn handlers(alloc: Global, file: &[u8], at: usize) -> Result<Option<HandlerLists>, AllocError>
+    requires header { 112 ≤ length file.now }
+    requires file { length file.now ≤ 16777216 }
+    requires small { at < 4294967296 }
+    requires lies { code_lies file.now at ≡ true }
+    ensures { IfOk result (λ r. r ≡ code_lists file.now at) }
+{
+    let head = head(file, at);
+    if head.tries == 0 {
+        return Ok(Some(HandlerLists::none(alloc)));
+    }
+    of_ranges(alloc, file, at, &head)
+}
+
+/// Whether a head is that of a method with so many argument words, and of some units.
+fn fits(head: &CodeHead, words: u32) -> bool
+    ensures { result ≡ ((head.now.ins == words) && (nat_le words head.now.registers && nat_lt 0 head.now.units)) }
+{
+    head.ins as u32 == words && words <= head.registers as u32 && head.units > 0
+}
+
+/// Whether a code item holds for a method with that many argument words.
+#[tactic(auto, using(crate::proofs::Items::not_lying, crate::proofs::Items::not_fitting, crate::proofs::Items::held_by_lists))]
+pub fn holds(alloc: Global, file: &[u8], at: usize, words: u32) -> Result<bool, AllocError>
+    requires header { 112 ≤ length file.now }
+    requires file { length file.now ≤ 16777216 }
+    requires small { at < 4294967296 }
+    ensures { IfOk result (λ r. r ≡ code_holds file.now words at) }
+{
+    if !lies(file, at) {
+        return Ok(false);
+    }
+    if !fits(&head(file, at), words) {
+        return Ok(false);
+    }
+    match handlers(alloc, file, at) {
+        Err(e) => Err(e),
+        Ok(None) => Ok(false),
+        Ok(Some(_)) => Ok(true),
+    }
+}

@@ -1,0 +1,29 @@
+// Code items of a file, by the rules X20 to X23 of docs/dex-format.md: the head, the ranges with their handlers, and the
+// instructions and payloads that its units are.
+#![tactic(auto)]
+
+mod bytes;
+mod codes;
+mod handler_lists;
+mod heads;
+mod indices;
+mod laws;
+mod pieces;
+mod ranges;
+mod reading;
+mod switches;
+#[cfg(test)]
+mod tests;
+mod walking;
+mod walks;
+
+pub use codes::{handlers, holds};
+pub use handler_lists::{Handler, HandlerList, HandlerLists};
+pub use heads::{CodeHead, head, lies, units};
+pub use indices::broken_index;
+pub use laws::{none_breaks, pieces_fill_up, ranges_are_served, ranges_stand};
+pub use pieces::{Piece, What};
+pub use ranges::{TryRange, lists_at, ranges_hold, try_range};
+pub use switches::broken_payload;
+pub use walking::walk;
+pub use walks::Walk;

@@ -1,0 +1,30 @@
+// The walk over the units of a code.
+
+ghost use Rattle.std.specs.Prelude.{◌≡◌, ◌≤◌, length, IfOk};
+ghost use Rattle.pi_format.specs.Rules.Pieces.{walk};
+
+use crate::pieces::Piece;
+use crate::walks::Walk;
+use std::alloc::{AllocError, Global};
+
+/// The instructions and payloads that stand one behind the other from unit 0 on, up to the end or the address at which
+/// neither stands.
+#[tactic(auto, unfolding(pi_format::specs::Rules::Pieces::walk))]
+pub fn walk<'a>(alloc: Global, units: &'a [u16]) -> Result<Walk<'a>, AllocError>
+    requires { length units.now ≤ 16777216 }
+    ensures { IfOk result (λ w. w ≡ walk units.now) }
+{
+    let mut pieces = Vec::new(alloc);
+    let mut starts = Vec::new(alloc);
+    let mut at = 0;
+    while at < units.len() {
+        let Some(piece) = Piece::front(units, at) else {
+            return Ok(Walk::new(pieces, starts, Some(at as u32)));
+        };
+        let size = piece.units as usize;
+        starts.push(piece.at)?;
+        pieces.push(piece)?;
+        at += size;
+    }
+    Ok(Walk::new(pieces, starts, None))
+}
