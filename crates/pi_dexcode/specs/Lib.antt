@@ -1,0 +1,2 @@
+-- Payloads that stand whole.
+pub mod Whole

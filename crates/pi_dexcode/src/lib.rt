@@ -1,0 +1,15 @@
+// The code that a code item says: instructions with names in place of indices and with the data that they point at, and
+// handlers in the order of search. docs/dex-format.md states what each means.
+#![tactic(auto)]
+
+mod codes;
+mod data;
+#[cfg(test)]
+mod five;
+mod insns;
+mod numbers;
+mod regs;
+#[cfg(test)]
+mod tests;
+
+pub use codes::code;
