@@ -1,0 +1,11 @@
+mod Lowest
+mod Codes
+mod Values
+mod Signs
+mod Faults
+mod Units
+mod Sums
+mod Listing
+mod Sayable
+mod Told
+mod Behind

@@ -1,0 +1,213 @@
+-- Static values that hold set their fields: a number has the bytes that its kind and argument say, and what a value names
+-- is there.
+use Rattle.std.proofs.Common.{◌≡◌, ◌⊎◌, inl, inr, ℕ, zero, suc, ◌+◌, ◌*◌, ◌^◌, ◌<◌, List, [], ◌∷◌, length, drop, Option, Some, None, Result, Ok, Err, Bool, true, false, refl, sym, ap, ◌∙◌, arith, subst}
+use Rattle.std.specs.Prelude.{◌==◌, ◌&&◌, ◌/◌, ◌%◌, nat_lt, nat_le, codes, slice_index, if◌then◌else◌}
+use Rattle.std.specs.List.{All}
+use Rattle.std.proofs.Math.Nat.{pow-succ'}
+use Rattle.std.proofs.lemmas.Bool.Decides.{nat_tests}
+use Rattle.byteorder.specs.Endian.{little_from, little_number}
+use Rattle.pi_bytes.specs.Place.{Place, ahead}
+use Rattle.pi_bytes.specs.Reading.{number_at, placed}
+use Rattle.pi_bytes.specs.Leb.{uleb_at, uleb_by}
+use Rattle.pi_bytes.specs.declared.fault.ReadFault.{ReadFault}
+use Rattle.pi_bytes.specs.declared.fault.ReadFault.TheVariants as fault
+use Rattle.pi_format.specs.Bytes.{◌>>=◌}
+use Rattle.pi_model.specs.Texts.{same_text}
+use Rattle.pi_format.specs.Tables.{count_at, string_ids, type_ids}
+use Rattle.pi_format.specs.Rules.Descriptors.{begins_with}
+use Rattle.pi_format.specs.Rules.Rows.{MemberRow, readable}
+use Rattle.pi_format.specs.Rules.ClassData.{rows_of, class_values_at}
+use Rattle.pi_format.specs.Rules.Values.{EncodedValue, value_bytes, encoded_value, value_fits, is_reference, names_reference, field_type, values_from, values_at, class_values}
+use Rattle.pi_format.specs.Says.Classes.{values_in}
+use Rattle.pi_dex.specs.Judged.{AreBytes, IsInit}
+use Rattle.pi_dex.proofs.Lowest.{all_nothing, all_more}
+
+one_more_byte : (b rest power : ℕ) → b < 256 → rest < power → b + 256 * rest < 256 * power
+one_more_byte b rest power lt below = omega (arith, lt, below)
+
+-- the number in n bytes has n bytes
+small_number : (bytes : List ℕ) → AreBytes bytes → (i n : ℕ) → little_from i n bytes < 256 ^ n
+small_number bytes are i zero = omega arith
+small_number bytes are i (suc n) =
+    rw (pow-succ' 256 n) (one_more_byte (slice_index bytes i) (little_from (suc i) n bytes) (256 ^ n) (are i) (small_number bytes are (suc i) n))
+
+rest_are : (bytes : List ℕ) → AreBytes bytes → (n : ℕ) → AreBytes (drop n bytes)
+rest_are bytes are zero k = are k
+rest_are [] are (suc n) k = are k
+rest_are (b ∷ bytes) are (suc n) k = rest_are bytes (λ j. are (suc j)) n k
+
+-- what was found first, where one step follows another
+record Found {A B : Type 0} (o : Option A) (f : A → Option B) (y : B) : Type 0 where
+  x : A
+  first : o ≡ Some x
+  later : f x ≡ Some y
+
+bind_some : {A B : Type 0} (o : Option A) (f : A → Option B) (y : B) → (o >>= f) ≡ Some y → Found o f y
+bind_some None f y e = cc
+bind_some (Some x) f y e = record { x = x; first = refl; later = e }
+
+readable_some : {A : Type 0} (r : Result A ReadFault) (x : A) → readable r ≡ Some x → r ≡ Ok x
+readable_some (Ok y) x e = cc
+readable_some (Err fault) x e = cc
+
+-- a number that was read has so many bytes
+number_small : (n : ℕ) (p : Place) (x : ℕ × Place) → AreBytes p.bytes → number_at n p ≡ Ok x → x.0 < 256 ^ n
+number_small n p x are e = by_test (nat_le n (length (ahead p))) e
+  where
+    by_test : (b : Bool) → (if b then Ok (little_number n (ahead p), record { bytes = p.bytes; at = p.at + n }) else Err fault.Short) ≡ Ok x → x.0 < 256 ^ n
+    by_test true f =
+        let is : little_number n (ahead p) ≡ x.0 = cc in
+        subst (λ (m : ℕ). m < 256 ^ n) is (small_number (ahead p) (rest_are p.bytes are p.at) 0 n)
+    by_test false f = cc
+
+-- a value that was read has as many bytes as its kind and argument say, and an argument of three bits
+record IsRead (v : EncodedValue) : Type 0 where
+  number : v.number < 256 ^ value_bytes v.kind v.arg
+  arg : v.arg < 8
+
+less_than_eight : (n : ℕ) → n < 256 → n / 32 < 8
+less_than_eight n lt = omega (arith, lt)
+
+one_byte : (n : ℕ) → n < 256 ^ 1 → n < 256
+one_byte n lt = omega (arith, lt)
+
+number_stays : (n : ℕ) (p : Place) (x : ℕ × Place) → number_at n p ≡ Ok x → x.1.bytes ≡ p.bytes
+number_stays n p x e = by_test (nat_le n (length (ahead p))) e
+  where
+    by_test : (b : Bool) → (if b then Ok (little_number n (ahead p), record { bytes = p.bytes; at = p.at + n }) else Err fault.Short) ≡ Ok x → x.1.bytes ≡ p.bytes
+    by_test true f =
+        let is : (little_number n (ahead p), record { bytes = p.bytes; at = p.at + n }) ≡ x = cc in
+        ap (λ (y : ℕ × Place). y.1.bytes) (sym is)
+    by_test false f = cc
+
+value_read : (p : Place) (x : EncodedValue × Place) → AreBytes p.bytes → encoded_value p ≡ Some x → IsRead x.0
+unfolding encoded_value
+value_read p x are e =
+    let a = bind_some (readable (number_at 1 p)) _ x e in
+    let head = readable_some (number_at 1 p) a.x a.first in
+    let b = bind_some (readable (number_at (value_bytes (a.x.0 % 32) (a.x.0 / 32)) a.x.1)) _ x a.later in
+    let number = readable_some (number_at (value_bytes (a.x.0 % 32) (a.x.0 / 32)) a.x.1) b.x b.first in
+    let are_behind : AreBytes a.x.1.bytes = subst AreBytes (sym (number_stays 1 p a.x head)) are in
+    let small = number_small (value_bytes (a.x.0 % 32) (a.x.0 / 32)) a.x.1 b.x are_behind number in
+    let few = less_than_eight a.x.0 (one_byte a.x.0 (number_small 1 p a.x are head)) in
+    let is : record { kind = a.x.0 % 32; arg = a.x.0 / 32; number = b.x.0 } ≡ x.0 = cc in
+    subst IsRead is (record { number = small; arg = few })
+
+value_stays : (p : Place) (x : EncodedValue × Place) → encoded_value p ≡ Some x → x.1.bytes ≡ p.bytes
+unfolding encoded_value
+value_stays p x e =
+    let a = bind_some (readable (number_at 1 p)) _ x e in
+    let head = readable_some (number_at 1 p) a.x a.first in
+    let b = bind_some (readable (number_at (value_bytes (a.x.0 % 32) (a.x.0 / 32)) a.x.1)) _ x a.later in
+    let number = readable_some (number_at (value_bytes (a.x.0 % 32) (a.x.0 / 32)) a.x.1) b.x b.first in
+    let is : b.x.1 ≡ x.1 = cc in
+    ap (λ (q : Place). q.bytes) (sym is) ∙ (number_stays (value_bytes (a.x.0 % 32) (a.x.0 / 32)) a.x.1 b.x number ∙ number_stays 1 p a.x head)
+
+-- the test of a value by its kind
+abbrev fits_kind : ℕ → List ℕ → List ℕ → EncodedValue → Bool
+fits_kind kind file ty v =
+    if kind == 0x00 then begins_with 66 ty && nat_lt v.arg 1 else
+    if kind == 0x02 then begins_with 83 ty && nat_lt v.arg 2 else
+    if kind == 0x03 then begins_with 67 ty && nat_lt v.arg 2 else
+    if kind == 0x04 then begins_with 73 ty && nat_lt v.arg 4 else
+    if kind == 0x06 then begins_with 74 ty && nat_lt v.arg 8 else
+    if kind == 0x1f then begins_with 90 ty && nat_lt v.arg 2 else
+    if kind == 0x17 then
+    same_text (codes "Ljava/lang/String;") ty && (nat_lt v.arg 4 && nat_lt v.number (count_at file string_ids)) else
+    if kind == 0x18 then same_text (codes "Ljava/lang/Class;") ty && (nat_lt v.arg 4 && names_reference file v.number) else
+    if kind == 0x1e then is_reference ty && (v.arg == 0) else false
+
+of_kind : (kind : ℕ) (file ty : List ℕ) (v : EncodedValue) → value_fits file ty v ≡ true → v.kind ≡ kind → fits_kind kind file ty v ≡ true
+unfolding value_fits
+of_kind kind file ty v e is = sym (ap (λ (k : ℕ). fits_kind k file ty v) is) ∙ e
+
+both : (a b : Bool) → (a && b) ≡ true → (a ≡ true) × (b ≡ true)
+both true b e = (refl, e)
+both false b e = cc
+
+below : (a b : ℕ) → nat_lt a b ≡ true → a < b
+below a b e = grind (arith, nat_tests)
+
+value_sets : (file ty : List ℕ) (v : EncodedValue) → IsRead v → value_fits file ty v ≡ true → IsInit file v
+value_sets file ty v read e = record {
+  number = read.number;
+  few = by_kind;
+  long = λ is. read.arg;
+  string = λ is.
+      let a = both (same_text (codes "Ljava/lang/String;") ty) (nat_lt v.arg 4 && nat_lt v.number (count_at file string_ids)) (of_kind 0x17 file ty v e is) in
+      below v.number (count_at file string_ids) ((both (nat_lt v.arg 4) (nat_lt v.number (count_at file string_ids)) a.1).1);
+  string_few = λ is.
+      let a = both (same_text (codes "Ljava/lang/String;") ty) (nat_lt v.arg 4 && nat_lt v.number (count_at file string_ids)) (of_kind 0x17 file ty v e is) in
+      below v.arg 4 ((both (nat_lt v.arg 4) (nat_lt v.number (count_at file string_ids)) a.1).0);
+  type_few = λ is.
+      let a = both (same_text (codes "Ljava/lang/Class;") ty) (nat_lt v.arg 4 && names_reference file v.number) (of_kind 0x18 file ty v e is) in
+      below v.arg 4 ((both (nat_lt v.arg 4) (names_reference file v.number) a.1).0);
+  type = λ is.
+      let a = both (same_text (codes "Ljava/lang/Class;") ty) (nat_lt v.arg 4 && names_reference file v.number) (of_kind 0x18 file ty v e is) in
+      let b = both (nat_lt v.arg 4) (names_reference file v.number) a.1 in
+      below v.number (count_at file type_ids) ((both (nat_lt v.number (count_at file type_ids)) _ b.1).0);
+}
+  where
+    by_kind : (v.kind ≡ 0) ⊎ ((v.kind ≡ 2) ⊎ ((v.kind ≡ 3) ⊎ (v.kind ≡ 4))) → v.arg < 4
+    by_kind (inl is) =
+        let lt = below v.arg 1 ((both (begins_with 66 ty) (nat_lt v.arg 1) (of_kind 0 file ty v e is)).1) in
+        omega (arith, lt)
+    by_kind (inr (inl is)) =
+        let lt = below v.arg 2 ((both (begins_with 83 ty) (nat_lt v.arg 2) (of_kind 2 file ty v e is)).1) in
+        omega (arith, lt)
+    by_kind (inr (inr (inl is))) =
+        let lt = below v.arg 2 ((both (begins_with 67 ty) (nat_lt v.arg 2) (of_kind 3 file ty v e is)).1) in
+        omega (arith, lt)
+    by_kind (inr (inr (inr is))) = below v.arg 4 ((both (begins_with 73 ty) (nat_lt v.arg 4) (of_kind 4 file ty v e is)).1)
+
+if_some : {A : Type 0} (b : Bool) (x : Option A) (y : A) → (if b then x else None) ≡ Some y → (b ≡ true) × (x ≡ Some y)
+if_some true x y e = (refl, e)
+if_some false x y e = cc
+
+values_set : (file : List ℕ) (fields : List MemberRow) (n : ℕ) (p : Place) (values : List EncodedValue) → AreBytes p.bytes
+    → values_from file fields n p ≡ Some values → All (IsInit file) values
+values_set file fields zero p values are e =
+    let is : [] ≡ values = cc in
+    subst (All (IsInit file)) is (all_nothing (IsInit file))
+values_set file [] (suc n) p values are e = cc
+values_set file (field ∷ fields) (suc n) p values are e =
+    let a = bind_some (encoded_value p) _ values e in
+    let b = if_some (value_fits file (field_type file field.id) a.x.0) _ values a.later in
+    let c = bind_some (values_from file fields n a.x.1) _ values b.1 in
+    let is : a.x.0 ∷ c.x ≡ values = cc in
+    let here = value_sets file (field_type file field.id) a.x.0 (value_read p a.x are a.first) b.0 in
+    let rest = values_set file fields n a.x.1 c.x (subst AreBytes (sym (value_stays p a.x a.first)) are) c.first in
+    subst (All (IsInit file)) is (all_more (IsInit file) a.x.0 c.x here rest)
+
+uleb_stays : (p : Place) (x : ℕ × Place) → uleb_at p ≡ Ok x → x.1.bytes ≡ p.bytes
+unfolding uleb_at
+uleb_stays p x e = by_read (uleb_by 4 (ahead p)) e
+  where
+    by_read : (r : Result (ℕ × ℕ) ReadFault) → placed p r ≡ Ok x → x.1.bytes ≡ p.bytes
+    by_read (Ok y) f =
+        let is : (y.0, record { bytes = p.bytes; at = p.at + y.1 }) ≡ x = cc in
+        ap (λ (z : ℕ × Place). z.1.bytes) (sym is)
+    by_read (Err g) f = cc
+
+values_at_set : (file : List ℕ) (fields : List MemberRow) (p : Place) (values : List EncodedValue) → AreBytes p.bytes
+    → values_at file fields p ≡ Some values → All (IsInit file) values
+unfolding values_at
+values_at_set file fields p values are e =
+    let a = bind_some (readable (uleb_at p)) _ values e in
+    values_set file fields a.x.0 a.x.1 values (subst AreBytes (sym (uleb_stays p a.x (readable_some (uleb_at p) a.x a.first))) are) a.later
+
+-- the values of each class set their fields
+pub inits_there : (file : List ℕ) (i : ℕ) → AreBytes file → All (IsInit file) (values_in (class_values file i))
+unfolding class_values
+inits_there file i are = by_values (class_values file i) refl
+  where
+    by_offset : (b : Bool) (values : List EncodedValue)
+        → (if b then Some [] else values_at file (rows_of file i).statics (record { bytes = file; at = class_values_at file i })) ≡ Some values → All (IsInit file) values
+    by_offset true values e =
+        let is : [] ≡ values = cc in
+        subst (All (IsInit file)) is (all_nothing (IsInit file))
+    by_offset false values e = values_at_set file (rows_of file i).statics (record { bytes = file; at = class_values_at file i }) values are e
+
+    by_values : (r : Option (List EncodedValue)) → class_values file i ≡ r → All (IsInit file) (values_in r)
+    by_values None e = all_nothing (IsInit file)
+    by_values (Some values) e = by_offset (class_values_at file i == 0) values e

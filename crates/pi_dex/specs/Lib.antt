@@ -1,0 +1,3 @@
+-- What is judged of the methods of a file.
+pub mod Judged
+pub mod Ready

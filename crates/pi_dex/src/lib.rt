@@ -1,0 +1,20 @@
+// Reads a file behind a chain: tests the rules X1 to X23 and adds what the file says to the program. docs/dex-format.md
+// states the rules, and what program a file says.
+#![tactic(auto)]
+
+mod adding;
+mod asking;
+mod classes;
+mod code_rules;
+#[cfg(test)]
+mod file;
+mod inits;
+mod members;
+mod places;
+#[cfg(test)]
+mod tests;
+mod walk_rules;
+mod words;
+
+pub use adding::append;
+pub use pi_dexraw::DexFault;
