@@ -1,6 +1,8 @@
 -- Cutting bytes at a mark, and the first line of a text.
-use Rattle.std.proofs.Common.{◌≡◌, ◌≢◌, ℕ, zero, suc, ◌+◌, ◌<◌, ◌==◌, List, [], ◌∷◌, length, take, drop, slice_index, true, false, Bool, refl, ap, arith, add-one}
+use Rattle.std.proofs.Common.{◌≡◌, ◌≢◌, ℕ, zero, suc, ◌+◌, ◌<◌, ◌==◌, List, [], ◌∷◌, ◌++◌, length, take, drop, slice_index, true, false, Bool, refl, ap, arith, add-one}
 use Rattle.std.proofs.lemmas.Bool.Decides.{nat_tests}
+use Rattle.std.specs.List.{All}
+use Rattle.std.proofs.lemmas.List.Elements.{All-head, All-tail}
 use Rattle.pi_job.specs.Lines.{joined, lines, front_of, behind_of}
 
 same-test : (a b : ℕ) → a ≡ b → (a == b) ≡ true
@@ -58,3 +60,18 @@ by_byte b bs false e again = rw e (joins b bs again)
 pub lines_cut : (bs : List ℕ) → 0 < length bs → lines bs ≡ front_of 10 bs ∷ lines (behind_of 10 bs)
 lines_cut [] lt = absurd (omega arith)
 lines_cut (b ∷ bs) lt = by_byte b bs (b == 10) refl (lines_cut bs)
+
+-- a line and the newline that ends it
+pub ended_line : (line rest : List ℕ) → All (λ b. b ≢ 10) line → lines (line ++ 10 ∷ rest) ≡ line ∷ lines rest
+ended_line [] rest none = refl
+ended_line (b ∷ line) rest none =
+    rw (other-test b 10 (All-head (λ (c : ℕ). c ≢ 10) b line none))
+    (ap (joined b) (ended_line line rest (All-tail (λ (c : ℕ). c ≢ 10) b line none)))
+
+-- a last line that no newline ends
+pub last_line : (line : List ℕ) → All (λ b. b ≢ 10) line → 0 < length line → lines line ≡ line ∷ []
+last_line [] none lt = absurd (omega arith)
+last_line (b ∷ []) none lt = rw (other-test b 10 (All-head (λ (c : ℕ). c ≢ 10) b [] none)) refl
+last_line (b ∷ c ∷ line) none lt =
+    rw (other-test b 10 (All-head (λ (d : ℕ). d ≢ 10) b (c ∷ line) none))
+    (ap (joined b) (last_line (c ∷ line) (All-tail (λ (d : ℕ). d ≢ 10) b (c ∷ line) none) (omega arith)))

@@ -9,6 +9,7 @@ use Rattle.pi_job.specs.declared.job.Job.{Job}
 use Rattle.pi_job.specs.declared.draft.Draft.{Draft}
 use Rattle.pi_job.specs.Lines.{lines}
 use Rattle.pi_job.specs.Telling.{told_from}
+use Rattle.pi_job.specs.Taking.{SaysWhole, IsFirstBroken}
 use Rattle.pi_job.specs.Units.{units_of}
 use Rattle.pi_job.specs.Numbers.{number_in}
 
@@ -195,3 +196,11 @@ nothing_said = record { images = []; dexes = []; heap = None; frames = None; ste
 -- the job that a text says, or its first wrong line
 abbrev pub job_of : List ℕ → List ℕ → Result Job ℕ
 job_of job bytes = told_from (line_added job) whole_job nothing_said 1 (lines bytes)
+
+-- the lines of a text say that job: each is taken in turn, and none is wanting
+abbrev pub SaysJob : List ℕ → List ℕ → Job → Type 0
+SaysJob job bytes said = SaysWhole (line_added job) whole_job nothing_said (lines bytes) said
+
+-- the first line of a text that breaks a rule of jobs has that number, or the line that is wanting at the end
+abbrev pub IsWrongLine : List ℕ → List ℕ → ℕ → Type 0
+IsWrongLine job bytes n = IsFirstBroken (line_added job) whole_job nothing_said (lines bytes) n

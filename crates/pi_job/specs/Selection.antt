@@ -8,6 +8,7 @@ use Rattle.pi_model.specs.Search.{class_of, class_at}
 use Rattle.pi_model.specs.Texts.{name_of}
 use Rattle.pi_job.specs.Lines.{lines}
 use Rattle.pi_job.specs.Telling.{told_from}
+use Rattle.pi_job.specs.Taking.{SaysWhole, IsFirstBroken}
 use Rattle.pi_job.specs.Units.{text_units}
 
 -- the class of a descriptor
@@ -42,6 +43,18 @@ with_class before c = if list_any (is_class c.0) before then None else Some (bef
 abbrev pub class_added : Program → ℕ → List ClassNo → List ℕ → Option (List ClassNo)
 class_added p file before line = option_and_then (with_class before) (class_on p file line)
 
+-- a selection is whole after any line
+abbrev pub whole_selection : List ClassNo → Option (List ClassNo)
+whole_selection classes = Some classes
+
 -- the classes of a selection text, or its first wrong line
 abbrev pub selection_of : Program → ℕ → List ℕ → Result (List ClassNo) ℕ
-selection_of p file bytes = told_from (class_added p file) (λ classes. Some classes) [] 1 (lines bytes)
+selection_of p file bytes = told_from (class_added p file) whole_selection [] 1 (lines bytes)
+
+-- the lines of a text name those classes, in their order
+abbrev pub SaysSelection : Program → ℕ → List ℕ → List ClassNo → Type 0
+SaysSelection p file bytes classes = SaysWhole (class_added p file) whole_selection [] (lines bytes) classes
+
+-- the first line of a text that breaks a rule of selections has that number
+abbrev pub IsWrongClass : Program → ℕ → List ℕ → ℕ → Type 0
+IsWrongClass p file bytes n = IsFirstBroken (class_added p file) whole_selection [] (lines bytes) n

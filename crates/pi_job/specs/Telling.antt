@@ -26,3 +26,9 @@ abbrev pub Answers : {A : Type 0} → Result A ℕ → Result A TextFault → Ty
 Answers says (Ok x) = says ≡ Ok x
 Answers says (Err (Line n)) = says ≡ Err n
 Answers says (Err OutOfMemory) = Unit {0}
+
+-- a call that names a line names such a line
+abbrev pub OnLine : {A : Type 0} → Result A TextFault → (ℕ → Type 0) → Type 0
+OnLine (Ok x) P = Unit {0}
+OnLine (Err (Line n)) P = P n
+OnLine (Err OutOfMemory) P = Unit {0}

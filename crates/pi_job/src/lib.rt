@@ -4,11 +4,14 @@
 mod draft;
 mod fault;
 mod job;
+mod laws;
 mod lines;
 mod names;
 #[cfg(test)]
 mod number_tests;
 mod numbers;
+#[cfg(test)]
+mod order_tests;
 mod reading;
 mod selection;
 #[cfg(test)]
@@ -19,5 +22,6 @@ mod units;
 
 pub use fault::TextFault;
 pub use job::{ImageLine, ImageLines, Job, Word, Words};
+pub use laws::{first_broken_line, lines_of_text};
 pub use reading::read_job;
 pub use selection::{Selection, read_selection};

@@ -2,8 +2,8 @@
 
 ghost use Rattle.std.specs.Prelude.{◌≡◌, ◌==◌, map, IfOk};
 ghost use Rattle.std.specs.List.{slice_split};
-ghost use Rattle.pi_job.specs.Job.{image_of, selection_named, with_one, with_two, with_six, with_fields, with_text, line_added, job_of};
-ghost use Rattle.pi_job.specs.Telling.{Answers};
+ghost use Rattle.pi_job.specs.Job.{image_of, selection_named, with_one, with_two, with_six, with_fields, with_text, line_added, job_of, SaysJob, IsWrongLine};
+ghost use Rattle.pi_job.specs.Telling.{Answers, OnLine};
 ghost use Rattle.pi_job.specs.Took.{Adds, Took};
 
 use crate::draft::Draft;
@@ -147,7 +147,9 @@ fn add_line(alloc: Global, job: &str, draft: &mut Draft, line: &[u8]) -> Result<
 ///
 /// Line where one breaks a rule: the first such line, or the line behind the last where one is wanting.
 pub fn read_job(alloc: Global, name: &str, bytes: &[u8]) -> Result<Job, TextFault>
-    ensures { Answers (job_of name.now bytes.now) result }
+    ensures ok { IfOk result (SaysJob name.now bytes.now) }
+    ensures line { OnLine result (IsWrongLine name.now bytes.now) }
+    ensures exact { Answers (job_of name.now bytes.now) result }
 {
     let mut draft = Draft::new(alloc);
     let mut rest = bytes;

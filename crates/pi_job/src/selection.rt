@@ -1,8 +1,8 @@
 // Reads the text of a selection: the classes of one file that it names, a line each.
 
 ghost use Rattle.std.specs.Prelude.{◌≡◌, ◌<◌, ℕ, length, option_map, IfOk, IfSome};
-ghost use Rattle.pi_job.specs.Selection.{class_called, class_on, selection_of};
-ghost use Rattle.pi_job.specs.Telling.{Answers};
+ghost use Rattle.pi_job.specs.Selection.{class_called, class_on, selection_of, SaysSelection, IsWrongClass};
+ghost use Rattle.pi_job.specs.Telling.{Answers, OnLine};
 
 use crate::fault::TextFault;
 use crate::lines::{first_line, next_line};
@@ -58,7 +58,9 @@ pub fn read_selection(
     file: FileNo,
     bytes: &[u8],
 ) -> Result<Selection, TextFault>
-    ensures { Answers (selection_of prog.now file.0 bytes.now) result }
+    ensures ok { IfOk result (SaysSelection prog.now file.0 bytes.now) }
+    ensures line { OnLine result (IsWrongClass prog.now file.0 bytes.now) }
+    ensures exact { Answers (selection_of prog.now file.0 bytes.now) result }
 {
     let mut classes = Selection::new(alloc);
     let mut seen = BTreeSet::new(alloc);

@@ -15,7 +15,7 @@ pub(crate) fn wrong_line(alloc: Global, text: &[u8]) -> Result<u32, AllocError> 
     }
 }
 
-const JOBS: [(&[u8], u32); 40] = [
+const JOBS: [(&[u8], u32); 43] = [
     (b"dex a\nheap 0 16\nframes 16\nsteps 0\nmain M\n", 0),
     // no newline at the end, empty lines between
     (b"\n\ndex a\n\nheap 0 16\nframes 16\nsteps 0\nmain M", 0),
@@ -27,6 +27,8 @@ const JOBS: [(&[u8], u32); 40] = [
         b"image a i 0 0 s 1\nimage a j 0 0 s 1\ndex a\nheap 0 16\nframes 16\nsteps 0\nmain M\narg\targ",
         8,
     ),
+    // empty lines are counted
+    (b"\n\ndex a\n\nheap 0 1\n", 5),
     // wanting at the end
     (b"", 1),
     (b"\n", 2),
@@ -69,6 +71,14 @@ const JOBS: [(&[u8], u32); 40] = [
         9,
     ),
     (
+        b"image a b 0 0 - 1\nimage a c 0 0 - 1\nimage a d 0 0 - 1\nimage a e 0 0 - 1\nimage a f 0 0 - 1\nimage a g 0 0 - 1\nimage a h 0 0 - 1\nimage a i 0 0 - 1\nimage a j 0 0 - 1\n",
+        9,
+    ),
+    (
+        b"dex a\ndex a\ndex a\ndex a\ndex a\ndex a\ndex a\ndex a\ndex a\n",
+        9,
+    ),
+    (
         b"dex a\ndex a\ndex a\ndex a\ndex a\ndex a\ndex a\ndex a\nheap 0 16\nframes 16\nsteps 0\nmain M",
         0,
     ),
@@ -104,19 +114,22 @@ fn counts_the_first_wrong_line(rt: HostRuntime) -> Result<(), Fail> {
 }
 
 // The lines of images and DEX files alone, so that line 3 is wanting where they are right.
-const NAMES: [(&[u8], u32); 20] = [
+const NAMES: [(&[u8], u32); 23] = [
     (b"image a i 0 0 s 1\nimage a j 0 0 - 1", 3),
     (b"image a i 0 0 s 1\nimage a i 0 0 s 1", 2),
     (b"image a i 0 0 s 1\nimage i j 0 0 s 1", 2),
     (b"image a i 0 0 s 1\nimage a j 0 0 i 1", 2),
     (b"image a i 0 0 s 1\nimage a a 0 0 s 1", 2),
+    (b"image a i 0 0 s 1\nimage b a 0 0 s 1", 2),
     (b"image a i 0 0 s 1\nimage a s 0 0 - 1", 2),
+    (b"image a job 0 0 s 1\nimage b j 0 0 - 1", 1),
     (b"image a i 0 0 s 1\nimage a job 0 0 s 1", 2),
     (b"image a i 0 0 s 1\nimage b b 0 0 s 1", 2),
     (b"image a i 0 0 s 1\nimage b j 0 0 j 1", 2),
     (b"image a i 0 0 - 1\nimage a - 0 0 - 1", 3),
     (b"image a i 0 0 - 1\nimage a @i 0 0 - 1", 2),
     (b"image a i 0 0 - 1\nimage @core j 0 0 @s 1", 3),
+    (b"image a i 0 0 - 1\nimage job j 0 0 job 1", 3),
     (b"image a i 0 0 - 1\nimage @cor j 0 0 - 1", 2),
     (b"image a i 0 0 - 1\nimage @core2 j 0 0 - 1", 2),
     (b"image a i 0 0 - 1\ndex i", 2),
