@@ -41,7 +41,6 @@ pub fn lies(file: &[u8], at: usize) -> bool
 }
 
 /// The head of a code item.
-
 pub fn head(file: &[u8], at: usize) -> CodeHead
     requires { code_lies file.now at ≡ true }
     ensures { result ≡ code_head file.now at }
@@ -56,7 +55,6 @@ pub fn head(file: &[u8], at: usize) -> CodeHead
 }
 
 /// The units of a code item.
-
 pub fn units(alloc: Global, file: &[u8], at: usize) -> Result<Vec<u16>, AllocError>
     requires { code_lies file.now at ≡ true }
     ensures { IfOk result (λ list. list.items ≡ code_units file.now at) }

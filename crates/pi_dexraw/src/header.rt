@@ -70,7 +70,7 @@ pub(crate) fn file_size_rule(file: &[u8]) -> Option<u32>
 
 /// The checksum of bytes: two sums modulo the largest prime below 2^16.
 #[tactic(auto, unfolding(pi_format::specs::Rules::Header::adler))]
-fn adler32(bytes: &[u8]) -> u32
+pub(crate) fn adler32(bytes: &[u8]) -> u32
     ensures { result ≡ adler bytes.now }
 {
     let mut a: u32 = 1;

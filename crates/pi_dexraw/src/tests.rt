@@ -1,6 +1,7 @@
 // The worked file with some of its bytes overwritten, and made to fit again where a rule stands behind the sums.
 use crate::fault::DexFault;
 use crate::five::FIVE;
+use crate::header::adler32;
 use crate::raw::Raw;
 use sha1::Sha1;
 use std::alloc::Global;
@@ -10,7 +11,7 @@ use std::test::Fail;
 type Edit = (usize, &'static [u8]);
 
 /// Rows: what is written over, the rule that is told, and its place.
-const ROWS: [(&[Edit], u8, u32); 47] = [
+const ROWS: [(&[Edit], u8, u32); 80] = [
     // string ids at no multiple of four
     (&[(60, b"\x71\x00\x00\x00")], 8, 56),
     // type ids that begin in the header
@@ -29,6 +30,12 @@ const ROWS: [(&[Edit], u8, u32); 47] = [
     (&[(88, b"\xff\xff\xff\xff")], 8, 88),
     // the greatest number of class definitions
     (&[(96, b"\xff\xff\xff\xff")], 8, 96),
+    // two tables that do not hold, of which the lower place is told
+    (
+        &[(56, b"\xff\xff\xff\xff"), (64, b"\xff\xff\xff\xff")],
+        8,
+        56,
+    ),
     // the greatest size of the data
     (&[(104, b"\xff\xff\xff\xff")], 9, 104),
     // data past the end
@@ -49,10 +56,28 @@ const ROWS: [(&[Edit], u8, u32); 47] = [
     (&[(540, b"\x03\x20")], 10, 52),
     // call sites
     (&[(564, b"\x07\x00")], 10, 52),
+    // method handles
+    (&[(564, b"\x08\x00")], 10, 52),
+    // one item more than there is room for
+    (&[(464, b"\x0d\x00\x00\x00")], 10, 52),
+    // the greatest number of items
+    (&[(464, b"\xff\xff\xff\xff")], 10, 52),
+    // a table that reaches into the next one
+    (
+        &[(56, b"\x0d\x00\x00\x00"), (484, b"\x0d\x00\x00\x00")],
+        10,
+        52,
+    ),
     // a byte that begins no unit
     (&[(431, b"\x80")], 11, 148),
     // no 0 behind a text
     (&[(435, b"\x78")], 11, 148),
+    // a text past the end
+    (&[(112, b"\x64\x02\x00\x00")], 11, 112),
+    // fewer units than a text has
+    (&[(350, b"\x07")], 11, 112),
+    // more units than a text has
+    (&[(350, b"\x09")], 11, 112),
     // two strings with one text, and a later one without
     (&[(116, b"\x5e\x01\x00\x00"), (435, b"\x78")], 11, 148),
     // two strings at one offset without a text
@@ -67,6 +92,16 @@ const ROWS: [(&[Edit], u8, u32); 47] = [
     ),
     // equal strings
     (&[(116, b"\x5e\x01\x00\x00")], 12, 116),
+    // strings that rise by their bytes and not by their units
+    (
+        &[
+            (351, b"\x01"),
+            (116, b"\xae\x01\x00\x00"),
+            (430, b"\x03\xc0\x80"),
+        ],
+        12,
+        116,
+    ),
     // a type without a string
     (&[(180, b"\x0c\x00\x00\x00")], 13, 180),
     // types that do not rise
@@ -77,10 +112,43 @@ const ROWS: [(&[Edit], u8, u32); 47] = [
     ),
     // a name as a type
     (&[(180, b"\x09\x00\x00\x00")], 13, 180),
+    // an empty first part of a name
+    (&[(412, b"/")], 13, 180),
+    // an empty part between two others
+    (&[(417, b"/")], 13, 180),
+    // an empty last part
+    (&[(427, b"/")], 13, 180),
+    // a mark in a part
+    (&[(413, b".")], 13, 180),
+    // a name without an end
+    (&[(428, b"x")], 13, 180),
+    // units behind a primitive
+    (&[(411, b"I")], 13, 180),
+    // a short form without a string
+    (&[(184, b"\x0c\x00\x00\x00")], 14, 184),
+    // a result that is no type
+    (&[(188, b"\x06\x00\x00\x00")], 14, 184),
     // a short form with another result
     (&[(184, b"\x01\x00\x00\x00")], 14, 184),
     // parameters at no multiple of four
     (&[(204, b"\x51\x01\x00\x00")], 14, 196),
+    // a short form with another parameter
+    (&[(340, b"\x05\x00")], 14, 196),
+    // a short form without a parameter
+    (&[(196, b"\x05\x00\x00\x00")], 14, 196),
+    // a parameter that is no type
+    (&[(340, b"\x06\x00")], 14, 196),
+    // prototypes that do not rise
+    (
+        &[
+            (196, b"\x07\x00\x00\x00"),
+            (204, b"\x58\x01\x00\x00"),
+            (208, b"\x06\x00\x00\x00"),
+            (216, b"\x50\x01\x00\x00"),
+        ],
+        14,
+        208,
+    ),
     // V as a parameter
     (&[(340, b"\x04\x00")], 14, 196),
     // equal prototypes
@@ -95,10 +163,37 @@ const ROWS: [(&[Edit], u8, u32); 47] = [
     (&[(222, b"\x04\x00")], 15, 220),
     // a field with marks in its name
     (&[(224, b"\x02\x00\x00\x00")], 15, 220),
+    // a field without a class
+    (&[(220, b"\x06\x00")], 15, 220),
+    // a field without a name
+    (&[(224, b"\x0c\x00\x00\x00")], 15, 220),
+    // fields that do not rise
+    (
+        &[
+            (80, b"\x02\x00\x00\x00"),
+            (520, b"\x02\x00\x00\x00"),
+            (88, b"\x02\x00\x00\x00"),
+            (532, b"\x02\x00\x00\x00"),
+            (92, b"\xec\x00\x00\x00"),
+            (536, b"\xec\x00\x00\x00"),
+        ],
+        15,
+        228,
+    ),
     // a method of an int
     (&[(228, b"\x00\x00")], 16, 228),
     // a method without a prototype
     (&[(230, b"\x03\x00")], 16, 228),
+    // a method without a class
+    (&[(228, b"\x06\x00")], 16, 228),
+    // a method without a name
+    (&[(232, b"\x0c\x00\x00\x00")], 16, 228),
+    // a name that is neither that of a constructor nor of an initialiser
+    (&[(358, b"x")], 16, 228),
+    // an empty name
+    (&[(350, b"\x00\x00")], 16, 228),
+    // equal methods
+    (&[(236, b"\x01\x00\x00\x00\x00\x00\x00\x00")], 16, 236),
     // methods that do not rise
     (
         &[
@@ -115,6 +210,18 @@ const ROWS: [(&[Edit], u8, u32); 47] = [
     (&[(260, b"\xff\xff\xff\xff")], 17, 252),
     // a class that is its own superclass
     (&[(260, b"\x01\x00\x00\x00")], 17, 252),
+    // a class that is no type
+    (&[(252, b"\x06\x00\x00\x00")], 17, 252),
+    // a superclass that is no type
+    (&[(260, b"\x06\x00\x00\x00")], 17, 252),
+    // Object with a superclass
+    (
+        &[(252, b"\x02\x00\x00\x00"), (260, b"\x03\x00\x00\x00")],
+        17,
+        252,
+    ),
+    // interfaces past the end
+    (&[(264, b"\x64\x02\x00\x00")], 17, 252),
     // interfaces at no multiple of four
     (&[(264, b"\x51\x01\x00\x00")], 17, 252),
     // an int as an interface
@@ -132,13 +239,31 @@ const ROWS: [(&[Edit], u8, u32); 47] = [
 ];
 
 /// Rows on the header, whose sums are not made again.
-const HEADER: [(&[Edit], u8, u32); 6] = [
+const HEADER: [(&[Edit], u8, u32); 8] = [
     (&[(6, b"6")], 2, 0),
     (&[(40, b"\x12")], 3, 40),
     (&[(36, b"\x71")], 4, 36),
     (&[(32, b"\x63")], 5, 32),
+    // the greatest size of the header
+    (&[(36, b"\xff\xff\xff\xff")], 4, 36),
+    // the greatest length of the file
+    (&[(32, b"\xff\xff\xff\xff")], 5, 32),
     (&[(8, b"\x00")], 6, 8),
     (&[(6, b"6"), (40, b"\x12")], 2, 0),
+];
+
+/// What is written over, where the file stays good.
+const GOOD: [&[Edit]; 5] = [
+    // the greatest size of what is linked, which no rule reads
+    &[(44, b"\xff\xff\xff\xff")],
+    // strings that rise by their units and not by their bytes
+    &[(350, b"\x07\xc0\x80")],
+    // a method with the name of a constructor
+    &[(350, b"\x06<init>\x00")],
+    // a method of an array
+    &[(244, b"\x05\x00")],
+    // Object without a superclass
+    &[(252, b"\x02\x00\x00\x00"), (260, b"\xff\xff\xff\xff")],
 ];
 
 /// Three classes, of which the later two have one list of interfaces, with the first class alone.
@@ -241,6 +366,79 @@ fn fault_of(alloc: Global, file: &[u8]) -> Result<DexFault, Fail> {
     }
 }
 
+fn accept(alloc: Global, file: &[u8]) -> Result<(), Fail> {
+    if file.len() > 16777216 {
+        return Err(Fail::new("a long file"));
+    }
+    match Raw::new(alloc, file) {
+        Ok(_) => Ok(()),
+        Err(_) => Err(Fail::new("a good file was refused")),
+    }
+}
+
+#[test]
+fn good_files_are_accepted(rt: HostRuntime) -> Result<(), Fail> {
+    for edits in GOOD {
+        let file = signed(rt.alloc(), edits)?;
+        accept(rt.alloc(), file.as_slice())?;
+    }
+    Ok(())
+}
+
+/// Adds a text of two letters, each so many times. The number of its units is given as two bytes.
+fn add_letters(file: &mut Vec<u8>, units: &[u8], letters: [(u8, u16); 2]) -> Result<(), Fail> {
+    file.extend_from_slice(units)?;
+    for (letter, n) in letters {
+        for done in 0..n {
+            file.push(letter)?;
+        }
+    }
+    file.push(0)?;
+    Ok(())
+}
+
+/// The file with an array of so many dimensions in place of its one, in a text behind the other bytes.
+fn with_dimensions(alloc: Global, n: u16, units: &[u8]) -> Result<Vec<u8>, Fail> {
+    let mut file = altered(alloc, &[(144, b"\x64\x02\x00\x00")])?;
+    write(&mut file, 32, &(616 + u32::from(n)).to_le_bytes())?;
+    add_letters(&mut file, units, [(b'[', n), (b'I', 1)])?;
+    sign(&mut file)?;
+    Ok(file)
+}
+
+/// The file whose last prototype takes so many ints, by a list and a short form behind the other bytes.
+fn with_ints(alloc: Global, n: u16, units: &[u8]) -> Result<Vec<u8>, Fail> {
+    let mut file = altered(alloc, &[(216, b"\x64\x02\x00\x00")])?;
+    write(&mut file, 32, &(620 + 3 * u32::from(n)).to_le_bytes())?;
+    write(&mut file, 140, &(616 + 2 * u32::from(n)).to_le_bytes())?;
+    add_word(&mut file, u32::from(n))?;
+    for done in 0..n {
+        file.extend_from_slice(b"\x00\x00")?;
+    }
+    add_letters(&mut file, units, [(b'V', 1), (b'I', n)])?;
+    sign(&mut file)?;
+    Ok(file)
+}
+
+#[test]
+fn limits_are_kept(rt: HostRuntime) -> Result<(), Fail> {
+    let file = with_dimensions(rt.alloc(), 255, b"\x80\x02")?;
+    accept(rt.alloc(), file.as_slice())?;
+    let file = with_dimensions(rt.alloc(), 256, b"\x81\x02")?;
+    assert_eq!(rt;
+        fault_of(rt.alloc(), file.as_slice())?,
+        DexFault::Rule { rule: 13, at: 180 }
+    );
+    let file = with_ints(rt.alloc(), 255, b"\x80\x02")?;
+    accept(rt.alloc(), file.as_slice())?;
+    let file = with_ints(rt.alloc(), 256, b"\x81\x02")?;
+    assert_eq!(rt;
+        fault_of(rt.alloc(), file.as_slice())?,
+        DexFault::Rule { rule: 14, at: 208 }
+    );
+    Ok(())
+}
+
 #[test]
 fn each_rule_is_told(rt: HostRuntime) -> Result<(), Fail> {
     for (edits, rule, at) in ROWS {
@@ -319,6 +517,9 @@ fn the_good_file_is_lent(rt: HostRuntime) -> Result<(), Fail> {
         return Err(Fail::new("other sizes"));
     }
     assert_eq!(rt; raw.string(3), b"Ljava/lang/Object;".as_slice());
+    let name = raw.units(rt.alloc(), 9)?;
+    assert_eq!(rt; name.as_slice(), [109, 97, 105, 110].as_slice());
+    assert_eq!(rt; raw.bytes(), FIVE.as_slice());
     assert_eq!(rt; raw.type_at(1), b"\x02\x00\x00\x00".as_slice());
     assert_eq!(rt; raw.proto(0), &FIVE[184..196]);
     assert_eq!(rt; raw.field(0), &FIVE[220..228]);
@@ -329,6 +530,7 @@ fn the_good_file_is_lent(rt: HostRuntime) -> Result<(), Fail> {
 
 #[test]
 fn the_sums_are_the_published_ones(rt: HostRuntime) {
+    assert_eq!(rt; adler32(b"Wikipedia"), 0x11e6_0398);
     assert_eq!(rt; sum_of(b"Wikipedia"), 0x11e6_0398);
     let want = [
         0xa9, 0x99, 0x3e, 0x36, 0x47, 0x06, 0x81, 0x6a, 0xba, 0x3e, 0x25, 0x71, 0x78, 0x50, 0xc2,
