@@ -1,64 +1,53 @@
--- The worked file from its bytes to what a lazy run of it owes: 5 and a newline, and the line on 11 steps.
-use Rattle.std.proofs.Common.{ℕ, List, [], ◌∷◌, Some, None, refl, if◌then◌else◌}
-use Rattle.std.specs.Prelude.{codes}
+-- The worked file: what a lazy run of it owes is 5 and a newline, and the line on 11 steps. That the file breaks no rule
+-- is a premise, since its signature is not computed here. And what an empty file owes.
+use Rattle.std.proofs.Common.{◌≡◌, ℕ, List, [], ◌∷◌, Some, None, Option, true, false, refl, if◌then◌else◌, subst, sym, length}
+use Rattle.std.specs.Prelude.{codes, nat_lt}
 use Rattle.std.specs.Fmt.{digits}
-use Rattle.pi_base.specs.declared.status.Status.TheVariants.{Done, Steps}
-use Rattle.pi_format.specs.Core.{core_names}
-use Rattle.pi_format.specs.Tables.{header_holds, tables_hold, table_holds, text_at, string_at}
-use Rattle.pi_format.specs.Bytes.{uleb_at}
-use Rattle.pi_format.specs.Ids.{type_at, type_list_at, field_at, proto_at, method_at}
-use Rattle.pi_format.specs.Instructions.{insn_at, code_at}
-use Rattle.pi_format.specs.ClassData.{field_row, method_row, members_at, class_at}
-use Rattle.pi_format.specs.Small.{small_class, small_program}
+use Rattle.pi_base.specs.declared.status.Status.TheVariants.{Done, Steps, Dex}
 use Rattle.pi_model.specs.Known.{descriptor_of}
+use Rattle.pi_model.specs.Program.{Program, with_file}
+use Rattle.pi_format.specs.Core.{name_no, core_names, core_program, int_name, object_name, out_name, void_name, strings_name}
+use Rattle.pi_format.specs.Rules.{Broken, broken_rule, broken_tables_rule}
+use Rattle.pi_format.specs.Says.{with_said}
+use Rattle.pi_format.proofs.Five.{five_bytes, five_class, line, x_field, print_ref, clinit_code, main_code}
+use Rattle.pi_format.proofs.Said.{five_is_said}
 use Rattle.pi_machine.specs.Natives.{native_table}
 use Rattle.pi_machine.specs.Initialisation.{is_clinit}
 use Rattle.pi_machine.specs.Start.{is_main}
 use Rattle.pi_machine.specs.Ends.{Returned, StepLimit}
-use Rattle.pi_duty.specs.Words.{same_word}
-use Rattle.pi_duty.specs.Duty.{Contents, Owes}
+use Rattle.pi_duty.specs.Small.{is_small}
+use Rattle.pi_duty.specs.Words.{LazyWords, same_word}
+use Rattle.pi_duty.specs.Duty.{Contents, Owed, Owes, LengthOwes, FileOwes, refused}
 
-five_bytes : List ℕ
-five_bytes =
-    100 ∷ 101 ∷ 120 ∷ 10 ∷ 48 ∷ 51 ∷ 53 ∷ 0 ∷ 15 ∷ 69 ∷ 21 ∷ 75 ∷ 100 ∷ 229 ∷ 32 ∷ 64 ∷
-    81 ∷ 181 ∷ 78 ∷ 104 ∷ 221 ∷ 158 ∷ 148 ∷ 34 ∷ 166 ∷ 158 ∷ 117 ∷ 164 ∷ 187 ∷ 251 ∷ 137 ∷ 43 ∷
-    100 ∷ 2 ∷ 0 ∷ 0 ∷ 112 ∷ 0 ∷ 0 ∷ 0 ∷ 120 ∷ 86 ∷ 52 ∷ 18 ∷ 0 ∷ 0 ∷ 0 ∷ 0 ∷
-    0 ∷ 0 ∷ 0 ∷ 0 ∷ 208 ∷ 1 ∷ 0 ∷ 0 ∷ 12 ∷ 0 ∷ 0 ∷ 0 ∷ 112 ∷ 0 ∷ 0 ∷ 0 ∷
-    6 ∷ 0 ∷ 0 ∷ 0 ∷ 160 ∷ 0 ∷ 0 ∷ 0 ∷ 3 ∷ 0 ∷ 0 ∷ 0 ∷ 184 ∷ 0 ∷ 0 ∷ 0 ∷
-    1 ∷ 0 ∷ 0 ∷ 0 ∷ 220 ∷ 0 ∷ 0 ∷ 0 ∷ 3 ∷ 0 ∷ 0 ∷ 0 ∷ 228 ∷ 0 ∷ 0 ∷ 0 ∷
-    1 ∷ 0 ∷ 0 ∷ 0 ∷ 252 ∷ 0 ∷ 0 ∷ 0 ∷ 72 ∷ 1 ∷ 0 ∷ 0 ∷ 28 ∷ 1 ∷ 0 ∷ 0 ∷
-    94 ∷ 1 ∷ 0 ∷ 0 ∷ 104 ∷ 1 ∷ 0 ∷ 0 ∷ 107 ∷ 1 ∷ 0 ∷ 0 ∷ 112 ∷ 1 ∷ 0 ∷ 0 ∷
-    132 ∷ 1 ∷ 0 ∷ 0 ∷ 142 ∷ 1 ∷ 0 ∷ 0 ∷ 145 ∷ 1 ∷ 0 ∷ 0 ∷ 149 ∷ 1 ∷ 0 ∷ 0 ∷
-    153 ∷ 1 ∷ 0 ∷ 0 ∷ 174 ∷ 1 ∷ 0 ∷ 0 ∷ 180 ∷ 1 ∷ 0 ∷ 0 ∷ 187 ∷ 1 ∷ 0 ∷ 0 ∷
-    1 ∷ 0 ∷ 0 ∷ 0 ∷ 2 ∷ 0 ∷ 0 ∷ 0 ∷ 3 ∷ 0 ∷ 0 ∷ 0 ∷ 4 ∷ 0 ∷ 0 ∷ 0 ∷
-    5 ∷ 0 ∷ 0 ∷ 0 ∷ 8 ∷ 0 ∷ 0 ∷ 0 ∷ 5 ∷ 0 ∷ 0 ∷ 0 ∷ 4 ∷ 0 ∷ 0 ∷ 0 ∷
-    0 ∷ 0 ∷ 0 ∷ 0 ∷ 6 ∷ 0 ∷ 0 ∷ 0 ∷ 4 ∷ 0 ∷ 0 ∷ 0 ∷ 80 ∷ 1 ∷ 0 ∷ 0 ∷
-    7 ∷ 0 ∷ 0 ∷ 0 ∷ 4 ∷ 0 ∷ 0 ∷ 0 ∷ 88 ∷ 1 ∷ 0 ∷ 0 ∷ 1 ∷ 0 ∷ 0 ∷ 0 ∷
-    11 ∷ 0 ∷ 0 ∷ 0 ∷ 1 ∷ 0 ∷ 0 ∷ 0 ∷ 0 ∷ 0 ∷ 0 ∷ 0 ∷ 1 ∷ 0 ∷ 2 ∷ 0 ∷
-    9 ∷ 0 ∷ 0 ∷ 0 ∷ 3 ∷ 0 ∷ 1 ∷ 0 ∷ 10 ∷ 0 ∷ 0 ∷ 0 ∷ 1 ∷ 0 ∷ 0 ∷ 0 ∷
-    1 ∷ 0 ∷ 0 ∷ 0 ∷ 2 ∷ 0 ∷ 0 ∷ 0 ∷ 0 ∷ 0 ∷ 0 ∷ 0 ∷ 255 ∷ 255 ∷ 255 ∷ 255 ∷
-    0 ∷ 0 ∷ 0 ∷ 0 ∷ 190 ∷ 1 ∷ 0 ∷ 0 ∷ 0 ∷ 0 ∷ 0 ∷ 0 ∷ 1 ∷ 0 ∷ 0 ∷ 0 ∷
-    0 ∷ 0 ∷ 0 ∷ 0 ∷ 0 ∷ 0 ∷ 0 ∷ 0 ∷ 4 ∷ 0 ∷ 0 ∷ 0 ∷ 18 ∷ 80 ∷ 103 ∷ 0 ∷
-    0 ∷ 0 ∷ 14 ∷ 0 ∷ 2 ∷ 0 ∷ 1 ∷ 0 ∷ 1 ∷ 0 ∷ 0 ∷ 0 ∷ 0 ∷ 0 ∷ 0 ∷ 0 ∷
-    6 ∷ 0 ∷ 0 ∷ 0 ∷ 96 ∷ 0 ∷ 0 ∷ 0 ∷ 113 ∷ 16 ∷ 2 ∷ 0 ∷ 0 ∷ 0 ∷ 14 ∷ 0 ∷
-    1 ∷ 0 ∷ 0 ∷ 0 ∷ 0 ∷ 0 ∷ 0 ∷ 0 ∷ 1 ∷ 0 ∷ 0 ∷ 0 ∷ 5 ∷ 0 ∷ 8 ∷ 60 ∷
-    99 ∷ 108 ∷ 105 ∷ 110 ∷ 105 ∷ 116 ∷ 62 ∷ 0 ∷ 1 ∷ 73 ∷ 0 ∷ 3 ∷ 76 ∷ 84 ∷ 59 ∷ 0 ∷
-    18 ∷ 76 ∷ 106 ∷ 97 ∷ 118 ∷ 97 ∷ 47 ∷ 108 ∷ 97 ∷ 110 ∷ 103 ∷ 47 ∷ 79 ∷ 98 ∷ 106 ∷ 101 ∷
-    99 ∷ 116 ∷ 59 ∷ 0 ∷ 8 ∷ 76 ∷ 112 ∷ 105 ∷ 47 ∷ 79 ∷ 117 ∷ 116 ∷ 59 ∷ 0 ∷ 1 ∷ 86 ∷
-    0 ∷ 2 ∷ 86 ∷ 73 ∷ 0 ∷ 2 ∷ 86 ∷ 76 ∷ 0 ∷ 19 ∷ 91 ∷ 76 ∷ 106 ∷ 97 ∷ 118 ∷ 97 ∷
-    47 ∷ 108 ∷ 97 ∷ 110 ∷ 103 ∷ 47 ∷ 83 ∷ 116 ∷ 114 ∷ 105 ∷ 110 ∷ 103 ∷ 59 ∷ 0 ∷ 4 ∷ 109 ∷
-    97 ∷ 105 ∷ 110 ∷ 0 ∷ 5 ∷ 112 ∷ 114 ∷ 105 ∷ 110 ∷ 116 ∷ 0 ∷ 1 ∷ 120 ∷ 0 ∷ 1 ∷ 0 ∷
-    2 ∷ 0 ∷ 0 ∷ 8 ∷ 0 ∷ 136 ∷ 128 ∷ 4 ∷ 156 ∷ 2 ∷ 1 ∷ 9 ∷ 180 ∷ 2 ∷ 0 ∷ 0 ∷
-    12 ∷ 0 ∷ 0 ∷ 0 ∷ 0 ∷ 0 ∷ 0 ∷ 0 ∷ 1 ∷ 0 ∷ 0 ∷ 0 ∷ 0 ∷ 0 ∷ 0 ∷ 0 ∷
-    1 ∷ 0 ∷ 0 ∷ 0 ∷ 12 ∷ 0 ∷ 0 ∷ 0 ∷ 112 ∷ 0 ∷ 0 ∷ 0 ∷ 2 ∷ 0 ∷ 0 ∷ 0 ∷
-    6 ∷ 0 ∷ 0 ∷ 0 ∷ 160 ∷ 0 ∷ 0 ∷ 0 ∷ 3 ∷ 0 ∷ 0 ∷ 0 ∷ 3 ∷ 0 ∷ 0 ∷ 0 ∷
-    184 ∷ 0 ∷ 0 ∷ 0 ∷ 4 ∷ 0 ∷ 0 ∷ 0 ∷ 1 ∷ 0 ∷ 0 ∷ 0 ∷ 220 ∷ 0 ∷ 0 ∷ 0 ∷
-    5 ∷ 0 ∷ 0 ∷ 0 ∷ 3 ∷ 0 ∷ 0 ∷ 0 ∷ 228 ∷ 0 ∷ 0 ∷ 0 ∷ 6 ∷ 0 ∷ 0 ∷ 0 ∷
-    1 ∷ 0 ∷ 0 ∷ 0 ∷ 252 ∷ 0 ∷ 0 ∷ 0 ∷ 1 ∷ 32 ∷ 0 ∷ 0 ∷ 2 ∷ 0 ∷ 0 ∷ 0 ∷
-    28 ∷ 1 ∷ 0 ∷ 0 ∷ 1 ∷ 16 ∷ 0 ∷ 0 ∷ 2 ∷ 0 ∷ 0 ∷ 0 ∷ 80 ∷ 1 ∷ 0 ∷ 0 ∷
-    2 ∷ 32 ∷ 0 ∷ 0 ∷ 12 ∷ 0 ∷ 0 ∷ 0 ∷ 94 ∷ 1 ∷ 0 ∷ 0 ∷ 0 ∷ 32 ∷ 0 ∷ 0 ∷
-    1 ∷ 0 ∷ 0 ∷ 0 ∷ 190 ∷ 1 ∷ 0 ∷ 0 ∷ 0 ∷ 16 ∷ 0 ∷ 0 ∷ 1 ∷ 0 ∷ 0 ∷ 0 ∷
-    208 ∷ 1 ∷ 0 ∷ 0 ∷ []
+-- what the file says behind the first file
+five : Program
+five = with_file core_program (codes "LT;" ∷ codes "VI" ∷ codes "VL" ∷ codes "x" ∷ [])
+    (int_name ∷ name_no 8 ∷ object_name ∷ out_name ∷ void_name ∷ strings_name ∷ []) (five_class ∷ [])
+
+five_is_small : is_small (codes "LT;") five ≡ true
+unfolding five five_class line x_field print_ref clinit_code main_code core_names is_small
+five_is_small = refl
+
+no_other_is : is_small (codes "LU;") five ≡ false
+unfolding five five_class line x_field print_ref clinit_code main_code core_names is_small
+no_other_is = refl
+
+lazy : ℕ → LazyWords
+lazy steps = record { file = codes "five.dex"; main = codes "LT;"; steps = steps }
+
+done : Owed
+done = record { status = Done; output = codes "5\n"; lines = codes "made 11 steps\n"; writes = [] }
+
+limited : Owed
+limited = record { status = Steps; output = codes "5\n"; lines = codes "limit steps\nmade 10 steps\n"; writes = [] }
+
+runs_five : FileOwes (lazy 11) None five done
+unfolding lazy done five five_class line x_field print_ref clinit_code main_code core_names is_small native_table descriptor_of is_clinit is_main digits
+runs_five = (record { end = Returned; output = codes "5\n"; steps = 11 }, ((12, refl), refl))
+
+runs_ten : FileOwes (lazy 10) None five limited
+unfolding lazy limited five five_class line x_field print_ref clinit_code main_code core_names is_small native_table descriptor_of is_clinit is_main digits
+runs_ten = (record { end = StepLimit; output = codes "5\n"; steps = 10 }, ((11, refl), refl))
 
 -- a store that has the file alone
 contents : Contents
@@ -67,10 +56,33 @@ contents name = if same_word name (codes "five.dex") then Some five_bytes else N
 words : List ℕ → List (List ℕ)
 words steps = codes "lazy" ∷ codes "five.dex" ∷ codes "LT;" ∷ steps ∷ []
 
-prints_five : Owes (words (codes "11")) contents (record { status = Done; output = codes "5\n"; lines = codes "made 11 steps\n"; writes = [] })
-unfolding five_bytes contents words small_program small_class header_holds tables_hold table_holds text_at string_at core_names uleb_at type_at type_list_at field_at proto_at method_at insn_at code_at field_row method_row members_at class_at native_table descriptor_of is_clinit is_main digits
-prints_five = (record { end = Returned; output = codes "5\n"; steps = 11 }, ((12, refl), refl))
+short : nat_lt 16777216 (length five_bytes) ≡ false
+unfolding five_bytes
+short = refl
 
-stops_at_ten : Owes (words (codes "10")) contents (record { status = Steps; output = codes "5\n"; lines = codes "limit steps\nmade 10 steps\n"; writes = [] })
-unfolding five_bytes contents words small_program small_class header_holds tables_hold table_holds text_at string_at core_names uleb_at type_at type_list_at field_at proto_at method_at insn_at code_at field_row method_row members_at class_at native_table descriptor_of is_clinit is_main digits
-stops_at_ten = (record { end = StepLimit; output = codes "5\n"; steps = 10 }, ((11, refl), refl))
+says_five : with_said core_program five_bytes ≡ five
+unfolding five
+says_five = five_is_said
+
+-- what is owed of the program is owed of the bytes
+by_bytes : (l : LazyWords) (o : Owed) → broken_rule five_bytes ≡ None → FileOwes l None five o → LengthOwes (nat_lt 16777216 (length five_bytes)) l five_bytes o
+by_bytes l o kept due =
+    let said : FileOwes l None (with_said core_program five_bytes) o = subst (λ (p : Program). FileOwes l None p o) (sym says_five) due in
+    let ruled : FileOwes l (broken_rule five_bytes) (with_said core_program five_bytes) o = subst (λ (b : Option Broken). FileOwes l b (with_said core_program five_bytes) o) (sym kept) said in
+    subst (λ long. LengthOwes long l five_bytes o) (sym short) ruled
+
+prints_five : broken_rule five_bytes ≡ None → Owes (words (codes "11")) contents done
+unfolding words contents lazy
+prints_five kept = by_bytes (lazy 11) done kept runs_five
+
+stops_at_ten : broken_rule five_bytes ≡ None → Owes (words (codes "10")) contents limited
+unfolding words contents lazy
+stops_at_ten kept = by_bytes (lazy 10) limited kept runs_ten
+
+-- an empty file breaks the first rule
+nothing : Contents
+nothing name = Some []
+
+refuses_nothing : Owes (words (codes "10")) nothing (refused Dex (codes "dex five.dex: rule 1 at 0\n"))
+unfolding words nothing broken_tables_rule digits
+refuses_nothing = refl

@@ -1,2 +1,3 @@
 mod Once
 mod Five
+mod Shapes

@@ -2,15 +2,18 @@
 -- machine gives it one. Want of memory and faults of the store or of a sink are no part of it.
 use Rattle.std.specs.Prelude.{◌≡◌, ℕ, nat_lt, List, [], ◌++◌, length, Option, Some, None, Bool, true, false}
 use Rattle.pi_base.specs.declared.status.Status.{Status}
-use Rattle.pi_base.specs.declared.status.Status.TheVariants.{Done, Uncaught, Usage, Missing, Steps, Heap, Frames, TooLarge, NotBuilt}
+use Rattle.pi_base.specs.declared.status.Status.TheVariants.{Done, Uncaught, Usage, Missing, Dex, Steps, Heap, Frames, TooLarge, NotBuilt}
 use Rattle.pi_model.specs.Program.{Program}
-use Rattle.pi_format.specs.Small.{small_program}
+use Rattle.pi_format.specs.Core.{core_program}
+use Rattle.pi_format.specs.Rules.{Broken, broken_rule}
+use Rattle.pi_format.specs.Says.{with_said}
 use Rattle.pi_machine.specs.Objects.{class_descriptor}
 use Rattle.pi_machine.specs.Start.{main_of}
 use Rattle.pi_machine.specs.Ends as ends
 use Rattle.pi_machine.specs.Ends.{End, Finish, Setting, EndsWith}
+use Rattle.pi_duty.specs.Small.{is_small}
 use Rattle.pi_duty.specs.Words.{LazyWords, lazy_words}
-use Rattle.pi_duty.specs.Lines.{usage_line, missing_line, too_large_line, not_built_line, step_limit_line, heap_limit_line, frame_limit_line, uncaught_line, made_line}
+use Rattle.pi_duty.specs.Lines.{usage_line, missing_line, dex_line, too_large_line, not_built_line, step_limit_line, heap_limit_line, frame_limit_line, uncaught_line, made_line}
 
 -- contents by name
 abbrev pub Contents : Type 0
@@ -65,15 +68,20 @@ abbrev pub RunOwes : Program → ℕ → Option ℕ → Owed → Type 0
 RunOwes p steps None o = o ≡ refused NotBuilt not_built_line
 RunOwes p steps (Some main) o = (f : Finish) × (EndsWith p (lazy_setting steps) main [] f × (o ≡ ended p f))
 
--- a file that is small for the main class is run, and another is not built
-abbrev pub FileOwes : LazyWords → Option Program → Owed → Type 0
-FileOwes l None o = o ≡ refused NotBuilt not_built_line
-FileOwes l (Some p) o = RunOwes p l.steps (main_of p l.main) o
+-- a program that is small for the main class is run, and another is not built
+abbrev pub ProgramOwes : Bool → LazyWords → Program → Owed → Type 0
+ProgramOwes false l p o = o ≡ refused NotBuilt not_built_line
+ProgramOwes true l p o = RunOwes p l.steps (main_of p l.main) o
+
+-- a file that breaks a rule of the format is refused; another says a program behind the first file
+abbrev pub FileOwes : LazyWords → Option Broken → Program → Owed → Type 0
+FileOwes l (Some broken) p o = o ≡ refused Dex (dex_line l.file broken.rule broken.at)
+FileOwes l None p o = ProgramOwes (is_small l.main p) l p o
 
 -- a file that is longer than the limit is refused
 abbrev pub LengthOwes : Bool → LazyWords → List ℕ → Owed → Type 0
 LengthOwes true l file o = o ≡ refused TooLarge (too_large_line l.file)
-LengthOwes false l file o = FileOwes l (small_program l.main file) o
+LengthOwes false l file o = FileOwes l (broken_rule file) (with_said core_program file) o
 
 -- a lazy run by what the store holds under the file's name
 abbrev pub LazyOwes : LazyWords → Option (List ℕ) → Owed → Type 0

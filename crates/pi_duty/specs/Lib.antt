@@ -1,4 +1,6 @@
 -- What commands owe.
 pub mod Words
 pub mod Lines
+pub mod Small
+pub mod Shape
 pub mod Duty

@@ -13,6 +13,16 @@ missing_line name = codes "missing " ++ line name
 abbrev pub read_fault_line : List ℕ → List ℕ
 read_fault_line name = codes "read fault " ++ line name
 
+-- a file breaks the rule of that number, at that offset
+abbrev pub place_line : ℕ → List ℕ
+place_line at = codes " at " ++ decimal at ++ codes "\n"
+
+abbrev pub rule_line : ℕ → ℕ → List ℕ
+rule_line rule at = codes ": rule " ++ decimal rule ++ place_line at
+
+abbrev pub dex_line : List ℕ → ℕ → ℕ → List ℕ
+dex_line name rule at = codes "dex " ++ name ++ rule_line rule at
+
 abbrev pub too_large_line : List ℕ → List ℕ
 too_large_line name = codes "too large " ++ line name
 

@@ -3,8 +3,28 @@
 #![tactic(auto)]
 
 ghost use Rattle.pi_duty.specs.Duty.{OwesOnce};
+ghost use Rattle.pi_duty.specs.Shape.{SmallHasClass, SmallHasShape};
+
+use pi_format::core_fits;
+use pi_said::said_keeps;
 
 /// For its words and for what the store holds a command owes one thing at most.
 pub fn owes_once()
     ensures { OwesOnce }
 {}
+
+/// The law that a small program has one class behind those of the first file.
+pub fn small_class()
+    ensures { SmallHasClass }
+{
+    core_fits();
+    said_keeps();
+}
+
+/// The law of what such a program looks like.
+pub fn small_shape()
+    ensures { SmallHasShape }
+{
+    core_fits();
+    said_keeps();
+}

@@ -11,13 +11,7 @@ use Rattle.pi_model.specs.declared.insn.Access.TheVariants.{Plain}
 use Rattle.pi_model.specs.declared.insn.How.TheVariants.{Static}
 use Rattle.pi_model.specs.declared.insn.FieldRef.{FieldRef}
 use Rattle.pi_model.specs.declared.insn.MethodRef.{MethodRef}
-use Rattle.pi_format.specs.Core.{name_no, core_names, object_name, out_name, strings_name, void_name, int_name, print_name, main_name, clinit_name}
-use Rattle.pi_format.specs.Tables.{header_holds, tables_hold, table_holds, text_at, string_at}
-use Rattle.pi_format.specs.Bytes.{uleb_at}
-use Rattle.pi_format.specs.Ids.{type_at, type_list_at, field_at, proto_at, method_at}
-use Rattle.pi_format.specs.Instructions.{insn_at, code_at}
-use Rattle.pi_format.specs.ClassData.{field_row, method_row, members_at, class_at}
-use Rattle.pi_format.specs.Small.{small_class, small_program, small_chain}
+use Rattle.pi_format.specs.Core.{name_no, object_name, out_name, strings_name, void_name, int_name, print_name, main_name, clinit_name}
 
 unfoldable pub five_bytes : List ℕ
 five_bytes =
@@ -102,11 +96,3 @@ five_class = record {
       record { name = clinit_name; params = []; ret = void_name; flags = 0x10008; code = Some clinit_code }
       ∷ record { name = main_name; params = strings_name ∷ []; ret = void_name; flags = 9; code = Some main_code } ∷ [];
 }
-
-five_says : small_program (codes "LT;") five_bytes ≡ Some (small_chain (codes "LT;" ∷ codes "VI" ∷ codes "VL" ∷ codes "x" ∷ []) five_class)
-unfolding five_bytes line x_field print_ref clinit_code main_code five_class small_program small_class header_holds tables_hold table_holds text_at string_at core_names uleb_at type_at type_list_at field_at proto_at method_at insn_at code_at field_row method_row members_at class_at
-five_says = refl
-
-five_is_not_other : small_program (codes "LU;") five_bytes ≡ None
-unfolding five_bytes small_program small_class header_holds tables_hold table_holds text_at string_at core_names uleb_at type_at type_list_at field_at proto_at method_at insn_at code_at field_row method_row members_at class_at
-five_is_not_other = refl

@@ -26,11 +26,11 @@ use Rattle.pi_format.specs.Says.Insns.{insn_of}
 use Rattle.pi_format.proofs.Five.{five_bytes, five_class, line, x_field, print_ref, clinit_code, main_code}
 
 -- the worked file keeps the rules on its content, and says its program behind the first file
-five_holds : broken_content_rule five_bytes ≡ None
+pub five_holds : broken_content_rule five_bytes ≡ None
 unfolding units_at five_bytes broken_content_rule string_text member_row method_fits row_counts rows_at class_rows encoded_value value_fits values_at class_values uleb_at sleb_at handler_at handler_list handler_lists code_lies code_lists code_holds walk read row_of payload
 five_holds = refl
 
-five_is_said :
+pub five_is_said :
     with_said core_program five_bytes
     ≡ with_file core_program (codes "LT;" ∷ codes "VI" ∷ codes "VL" ∷ codes "x" ∷ [])
     (int_name ∷ name_no 8 ∷ object_name ∷ out_name ∷ void_name ∷ strings_name ∷ []) (five_class ∷ [])

@@ -5,11 +5,13 @@ use Rattle.std.specs.List.{list_all, list_any}
 use Rattle.std.proofs.lemmas.Bool.{and_parts, and_from, or_from, or_parts}
 use Rattle.std.proofs.lemmas.Bool.Decides.{nat_tests}
 use Rattle.std.proofs.lemmas.List.{length-map}
+use Rattle.std.proofs.lemmas.Option.{none-some}
 use Rattle.pi_bytes.specs.Place.{Place}
 use Rattle.pi_model.specs.declared.describe.Init.TheVariants.{Zero}
 use Rattle.pi_model.specs.Distinct.{all_distinct}
 use Rattle.pi_model.specs.Program.{field_count, method_count}
 use Rattle.pi_model.proofs.Kept.{all_more}
+use Rattle.pi_format.specs.Bytes.{◌>>=◌}
 use Rattle.pi_format.specs.Tables.{count_at, field_ids, method_ids, class_defs}
 use Rattle.pi_format.specs.declared.lists.MemberList.{MemberList}
 use Rattle.pi_format.specs.declared.lists.MemberList.TheVariants.{StaticFields, InstanceFields, DirectMethods, VirtualMethods}
@@ -22,7 +24,6 @@ use Rattle.pi_format.specs.Rules.ClassData.{Owner, owner, ClassRows, no_rows, ro
 use Rattle.pi_format.specs.Rules.Values.{EncodedValue, class_values}
 use Rattle.pi_format.specs.Says.Names.{Named}
 use Rattle.pi_format.specs.Says.Classes.{field_desc, static_fields, values_in, method_desc, class_desc, classes_said}
-use Rattle.pi_format.proofs.Shapes.{bind_some}
 use Rattle.pi_format.proofs.Held.{class_kept}
 use Rattle.pi_said.proofs.Lists.{distinct_from, distinct-append, append_all, listed_distinct}
 use Rattle.pi_said.proofs.Counts.{few_distinct, owned, few_owned, sum-listed_le}
@@ -30,6 +31,11 @@ use Rattle.pi_said.proofs.Counts.{few_distinct, owned, few_owned, sum-listed_le}
 -- two rows are of one member
 abbrev pub same_id : MemberRow → MemberRow → Bool
 same_id x y = x.id == y.id
+
+-- what a step that did not fail went on with
+bind_some : {A B : Type 0} (m : Option A) (f : A → Option B) (y : B) → (m >>= f) ≡ Some y → (x : A) × (m ≡ Some x) × (f x ≡ Some y)
+bind_some None f y e = absurd (none-some y e)
+bind_some (Some x) f y e = (x, refl, e)
 
 some_is : {A : Type 0} {x y : A} → Some x ≡ Some y → x ≡ y
 some_is e = cc

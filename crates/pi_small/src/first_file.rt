@@ -3,7 +3,9 @@
 
 ghost use Rattle.std.specs.Prelude.{◌≡◌, IfOk};
 ghost use Rattle.pi_format.specs.Core.{core_names, core_types, core_program, object_class, out_class, print_method};
+ghost use Rattle.pi_format.specs.Says.{HasRoom};
 
+use pi_format::core_fits;
 use pi_model::describe::{ClassDesc, Classes, Fields, MethodDesc, Methods};
 use pi_model::listed::{Names, Texts};
 use pi_model::numbers::{FileNo, NameNo};
@@ -102,8 +104,10 @@ fn out(alloc: Global) -> Result<ClassDesc, AllocError>
 /// The chain of that file alone.
 #[tactic(auto, unfolding(pi_format::specs::Core::core_names))]
 pub fn core(alloc: Global) -> Result<Prog, AllocError>
-    ensures { IfOk result (λ p. p ≡ core_program) }
+    ensures program { IfOk result (λ p. p ≡ core_program) }
+    ensures room { IfOk result HasRoom }
 {
+    core_fits();
     let mut classes = Classes::new(alloc);
     classes.push(object(alloc))?;
     classes.push(out(alloc)?)?;

@@ -1,20 +1,18 @@
-// The tests of a class that make its file small for a main class. docs/dex-format.md states them; each function is one
-// definition of the format's.
+// The tests that make a program small for a main class. docs/dex-format.md states them; each function is one definition of
+// the duties'.
 
-ghost use Rattle.std.specs.Prelude.{◌≡◌, ◌++◌};
-ghost use Rattle.std.specs.List.{list_all, list_any};
+ghost use Rattle.std.specs.Prelude.{◌≡◌};
+ghost use Rattle.std.specs.List.{list_all};
 ghost use Rattle.pi_model.specs.Program.{same_name};
 ghost use Rattle.pi_model.specs.Search.{same_names};
-ghost use Rattle.pi_model.specs.Distinct.{all_distinct};
-ghost use Rattle.pi_format.specs.Small.{is_static, same_field, field_fits, is_print, one_below, names_own, insn_fits, line_fits, is_return, ends_in_return, code_fits, method_fits, main_fits, clinit_fits, methods_fit, parent_fits, class_fits, has_text};
+ghost use Rattle.pi_model.specs.Texts.{same_text};
+ghost use Rattle.pi_duty.specs.Small.{is_plain, is_plain_text, is_static, is_zero, field_fits, is_print, one_below, names_own, insn_fits, line_fits, insn_units, lies, is_return, ends_in_return, code_fits, method_fits, main_fits, clinit_fits, methods_fit, parent_fits, class_fits, one_fits, is_small};
 
 use crate::first_file::{CLINIT, INT, MAIN, OBJECT, OUT, PRINT, STRINGS, VOID};
-use pi_model::describe::{ClassDesc, Code, FieldDesc, Line, MethodDesc};
+use pi_model::describe::{ClassDesc, Code, FieldDesc, Init, Line, MethodDesc};
 use pi_model::insn::{Access, FieldRef, How, Insn, MethodRef};
-use pi_model::listed::Units;
-use pi_model::numbers::NameNo;
+use pi_model::numbers::{ClassNo, NameNo};
 use pi_model::prog::Prog;
-use pi_model::texts::same_text;
 
 fn is_same(a: NameNo, b: NameNo) -> bool
     ensures { result ≡ same_name a b }
@@ -41,41 +39,26 @@ fn has_static_flag(flags: u32) -> bool
     flags & 8 == 8
 }
 
-fn is_same_field(a: &FieldDesc, b: &FieldDesc) -> bool
-    ensures { result ≡ same_field a.now b.now }
+fn is_zero_value(init: Init) -> bool
+    ensures { result ≡ is_zero init }
 {
-    is_same(a.name, b.name) && is_same(a.ty, b.ty)
+    match init {
+        Init::Zero => true,
+        _ => false,
+    }
 }
 
-/// Whether a field is a static int.
+/// Whether a field is a static int without a value.
 fn fits_field(field: &FieldDesc) -> bool
     ensures { result ≡ field_fits field.now }
 {
-    is_same(field.ty, INT) && has_static_flag(field.flags)
+    is_same(field.ty, INT) && has_static_flag(field.flags) && is_zero_value(field.init)
 }
 
 fn fit_fields(fields: &[FieldDesc]) -> bool
     ensures { result ≡ list_all field_fits fields.now }
 {
     fields.iter().all(fits_field)
-}
-
-/// Whether no two fields are one member. Each is compared with all behind it.
-fn are_distinct(fields: &[FieldDesc]) -> bool
-    ensures { result ≡ all_distinct same_field fields.now }
-{
-    for (i, field) in fields.iter().enumerate() {
-        if stands_among(field, &fields[i + 1..]) {
-            return false;
-        }
-    }
-    true
-}
-
-fn stands_among(field: &FieldDesc, others: &[FieldDesc]) -> bool
-    ensures { result ≡ list_any (same_field field.now) others.now }
-{
-    others.iter().any(|other| is_same_field(field, other))
 }
 
 /// Whether a method is the native that prints an int.
@@ -155,6 +138,31 @@ fn end_in_return(lines: &[Line]) -> bool
     }
 }
 
+/// How many units an instruction of a small file has.
+fn units(insn: &Insn) -> u32
+    ensures { result ≡ insn_units insn.now }
+{
+    match insn {
+        Insn::Sget { .. } | Insn::Sput { .. } => 2,
+        Insn::Invoke { .. } => 3,
+        _ => 1,
+    }
+}
+
+/// Whether instructions lie one behind another from address 0 to the end of their code.
+fn lie(end: u32, lines: &[Line]) -> bool
+    ensures { result ≡ lies 0 end lines.now }
+{
+    let mut at = 0;
+    for line in lines {
+        if u64::from(line.at) != at || line.units != units(&line.insn) {
+            return false;
+        }
+        at = u64::from(line.at) + u64::from(line.units);
+    }
+    at == u64::from(end)
+}
+
 /// Whether a code with that many argument words leaves the arguments alone and does what a small file may.
 fn fits_code(class: &ClassDesc, ins: u16, code: &Option<Code>) -> bool
     ensures { result ≡ code_fits class.now ins code.now }
@@ -167,6 +175,8 @@ fn fits_code(class: &ClassDesc, ins: u16, code: &Option<Code>) -> bool
         && ins <= code.regs
         && fit_lines(class, code.regs - ins, lines)
         && end_in_return(lines)
+        && lie(code.units, lines)
+        && code.tries.is_empty()
 }
 
 /// Whether a method is static, without result, of that name, and with parameters of those types and that many words.
@@ -213,28 +223,83 @@ fn fits_parent(parent: Option<NameNo>) -> bool
     }
 }
 
-/// Whether a class is no class of the first file, stands below Object, and has static ints and the two methods alone.
-pub fn fits_class(class: &ClassDesc) -> bool
+/// Whether a class is no class of the first file, stands below Object alone, and has static ints and the two methods.
+fn fits_class(class: &ClassDesc) -> bool
     ensures { result ≡ class_fits class.now }
 {
     !is_same(class.name, OBJECT)
         && !is_same(class.name, OUT)
         && fits_parent(class.parent)
+        && class.faces.is_empty()
         && fit_fields(class.fields.as_slice())
-        && are_distinct(class.fields.as_slice())
         && fit_methods(class, class.methods.as_slice())
 }
 
-/// Whether a name of the program, or of the new ones behind them, has that text.
-pub fn is_called(prog: &Prog, new: &[Units], n: NameNo, text: &[u16]) -> bool
-    ensures { result ≡ has_text (prog.now.names ++ new.now) n text.now }
+/// Whether the units of a text are those bytes.
+fn has_bytes(units: &[u16], bytes: &[u8]) -> bool
+    ensures { result ≡ same_text units.now bytes.now }
 {
-    let old = prog.names();
-    if n.0 < old {
-        return same_text(prog.name(n).as_slice(), text);
+    if units.len() != bytes.len() {
+        return false;
     }
-    match new.get((n.0 - old) as usize) {
-        Some(name) => same_text(name.as_slice(), text),
-        None => false,
+    for (i, unit) in units.iter().enumerate() {
+        if *unit != u16::from(bytes[i]) {
+            return false;
+        }
     }
+    true
+}
+
+/// Whether a character is one from 0x01 to 0x7f.
+fn is_ascii(unit: u16) -> bool
+    ensures { result ≡ is_plain unit }
+{
+    0 < unit && unit < 128
+}
+
+fn are_ascii(units: &[u16]) -> bool
+    ensures { result ≡ list_all is_plain units.now }
+{
+    units.iter().all(|unit| is_ascii(*unit))
+}
+
+/// Whether a text has fewer than 128 characters, each of them such a one.
+fn is_short_ascii(units: &[u16]) -> bool
+    ensures { result ≡ is_plain_text units.now }
+{
+    units.len() < 128 && are_ascii(units)
+}
+
+/// Whether all names are such texts.
+fn has_plain_names(prog: &Prog) -> bool
+    ensures { result ≡ list_all is_plain_text prog.now.names }
+{
+    for n in 0..prog.names() {
+        if !is_short_ascii(prog.name(NameNo(n)).as_slice()) {
+            return false;
+        }
+    }
+    true
+}
+
+/// Whether there is one class behind those of the first file, which is named so and fits.
+fn has_one_class(prog: &Prog, main: &[u8]) -> bool
+    ensures { result ≡ one_fits prog.now.names main.now prog.now.classes }
+{
+    if prog.classes() != 3 {
+        return false;
+    }
+    let class = prog.class(ClassNo(2));
+    has_bytes(prog.name(class.name).as_slice(), main) && fits_class(class)
+}
+
+/// Whether a program of the first file and one more is small for the main class of that descriptor.
+///
+/// Each field that an instruction names is looked for among the fields of the class, so the time grows with the product
+/// of the two numbers.
+#[tactic(auto, unfolding(pi_duty::specs::Small::is_small))]
+pub fn is_small_program(prog: &Prog, main: &[u8]) -> bool
+    ensures { result ≡ is_small main.now prog.now }
+{
+    has_one_class(prog, main) && has_plain_names(prog)
 }

@@ -6,7 +6,7 @@ use Rattle.pi_duty.specs.Words.{lazy_words}
 use Rattle.pi_duty.specs.Duty.{Contents, Owed, CommandOwes, Owes, OwesOnce}
 use Rattle.pi_top.specs.declared.plain.run.RunEnd.TheVariants.{Returned, Limited, OutFault}
 use Rattle.pi_top.specs.declared.outcome.Outcome.{Outcome}
-use Rattle.pi_top.specs.declared.outcome.Outcome.TheVariants.{Usage, Missing, ReadFault, TooLarge, Memory, NotBuilt, Ran}
+use Rattle.pi_top.specs.declared.outcome.Outcome.TheVariants.{Usage, Missing, ReadFault, TooLarge, Memory, Broken, NotBuilt, Ran}
 use Rattle.pi_top.specs.Answer.{OwesOver, IsExact, is_as_owed, ends_run, is_status}
 use Rattle.pi_top.specs.Outcome.{Gives, OutcomeGives, status_of}
 
@@ -30,6 +30,7 @@ module _ (once : OwesOnce) (shown : Bool) (contents : Contents) (words : List (L
   by_outcome (ReadFault name) g = refl
   by_outcome (TooLarge name) g = given statuses.TooLarge _ refl g
   by_outcome Memory g = refl
+  by_outcome (Broken name rule at) g = given statuses.Dex _ refl g
   by_outcome NotBuilt g = given statuses.NotBuilt _ refl g
   by_outcome (Ran (Returned steps)) g = given statuses.Done _ refl g
   by_outcome (Ran (Limited steps)) g = given statuses.Steps _ refl g

@@ -1,6 +1,6 @@
 -- What the machine finds in the program of a small file: its class, the fields that its codes name, the native that
 -- they call, and the codes by the numbers of their methods.
-use Rattle.std.proofs.Common.{◌≡◌, ℕ, ◌<◌, Bool, true, false, List, [], ◌∷◌, length, Option, Some, None, refl, sym, ◌∙◌, ap, zero-add}
+use Rattle.std.proofs.Common.{◌≡◌, ℕ, ◌<◌, Bool, true, false, [], ◌∷◌, length, Option, Some, None, refl, sym, ◌∙◌, ap, zero-add}
 use Rattle.std.proofs.lemmas.Option.{slice_get_within}
 use Rattle.std.specs.Prelude.{nat_lt, slice_get, cond, ◌&&◌, ◌==◌, not, is_some, unwrap_or, option_and_then}
 use Rattle.std.specs.List.{list_all, position_or_len}
@@ -14,8 +14,8 @@ use Rattle.pi_model.specs.Program.{same_name, method_count, method_number}
 use Rattle.pi_model.specs.Search.{same_names, field_from, in_class, class_of, own_field, find_field, find_method, field_no_of, method_of, method_at}
 use Rattle.pi_model.proofs.Members.{member_back}
 use Rattle.pi_format.specs.Core.{core_names, object_name, out_name, print_name, int_name, void_name}
-use Rattle.pi_model.specs.Distinct.{all_distinct}
-use Rattle.pi_format.specs.Small.{is_print, names_own, parent_fits, field_fits, same_field, methods_fit, class_fits, small_chain}
+use Rattle.pi_duty.specs.Small.{is_print, names_own, parent_fits, is_empty, field_fits, methods_fit, class_fits}
+use Rattle.pi_duty.specs.Shape.{small_chain, Brought}
 use Rattle.pi_model.specs.Known.{descriptor_of}
 use Rattle.pi_model.specs.declared.insn.How.TheVariants.{Static}
 use Rattle.pi_model.specs.declared.insn.Kind.TheVariants as kind
@@ -41,16 +41,17 @@ parent_is (Some n) e = ap Some (same_name-is n object_name e)
 
 pub class_is : (d : ClassDesc) → class_fits d ≡ true → ClassIs d
 class_is d e =
-    let a : (not (same_name d.name object_name) ≡ true) × ((not (same_name d.name out_name) && (parent_fits d.parent && (list_all field_fits d.fields && (all_distinct same_field d.fields && methods_fit d d.methods)))) ≡ true) = both _ _ e in
-    let b : (not (same_name d.name out_name) ≡ true) × ((parent_fits d.parent && (list_all field_fits d.fields && (all_distinct same_field d.fields && methods_fit d d.methods))) ≡ true) = both _ _ a.1 in
-    let c : (parent_fits d.parent ≡ true) × ((list_all field_fits d.fields && (all_distinct same_field d.fields && methods_fit d d.methods)) ≡ true) = both _ _ b.1 in
-    let f : (list_all field_fits d.fields ≡ true) × ((all_distinct same_field d.fields && methods_fit d d.methods) ≡ true) = both _ _ c.1 in
-    let g : (all_distinct same_field d.fields ≡ true) × (methods_fit d d.methods ≡ true) = both _ _ f.1 in
+    let members : Bool = list_all field_fits d.fields && methods_fit d d.methods in
+    let a : (not (same_name d.name object_name) ≡ true) × ((not (same_name d.name out_name) && (parent_fits d.parent && (is_empty d.faces && members))) ≡ true) = both _ _ e in
+    let b : (not (same_name d.name out_name) ≡ true) × ((parent_fits d.parent && (is_empty d.faces && members)) ≡ true) = both _ _ a.1 in
+    let c : (parent_fits d.parent ≡ true) × ((is_empty d.faces && members) ≡ true) = both _ _ b.1 in
+    let f : (is_empty d.faces ≡ true) × (members ≡ true) = both _ _ c.1 in
+    let g : (list_all field_fits d.fields ≡ true) × (methods_fit d d.methods ≡ true) = both _ _ f.1 in
     record {
       no_object = turned d.name.0 0 false (not_false _ a.0);
       no_out = turned d.name.0 1 false (not_false _ b.0);
       parent = parent_is d.parent c.0;
-      fields = f.0;
+      fields = g.0;
       methods = g.1;
     }
 
@@ -73,7 +74,7 @@ some_within : (b : Bool) (n k : ℕ) → nat_lt n k ≡ b → is_some (cond b (S
 some_within true n k is e = lt_of n k is
 some_within false n k is e = cc
 
-module _ (new : List (List ℕ)) (d : ClassDesc) (is : ClassIs d) where
+module _ (new : Brought) (d : ClassDesc) (is : ClassIs d) where
   finds_class : class_of (small_chain new d) d.name ≡ Some 2
   finds_class = rw (is.no_object, is.no_out, same_self d.name.0) refl
 

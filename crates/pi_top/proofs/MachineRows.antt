@@ -15,7 +15,8 @@ use Rattle.pi_model.specs.declared.insn.MethodRef.{MethodRef}
 use Rattle.pi_model.specs.Program.{Program}
 use Rattle.pi_model.specs.Search.{in_class, find_field, field_no_of}
 use Rattle.pi_model.specs.Values.{Value, Word, Num}
-use Rattle.pi_format.specs.Small.{insn_fits, names_own, is_print, one_below, small_chain}
+use Rattle.pi_duty.specs.Small.{insn_fits, names_own, is_print, one_below}
+use Rattle.pi_duty.specs.Shape.{small_chain, Brought}
 use Rattle.pi_machine.specs.State.{State, Thing, Frame, Entry, Call, Nothing}
 use Rattle.pi_machine.specs.Deeds.{Deed, Saw, OfStatus, OfStatic, SetStatic, CallNative, Print, Pop, SetReg, Jump, GoOn, Hold, do_all, on_frame, past_call}
 use Rattle.pi_machine.specs.Printed.{printed_int}
@@ -68,7 +69,7 @@ abbrev pub stack_after : Bool → ℕ → ℕ → List ℕ → List Value → Li
 stack_after true method at words extra below = on_frame past_call below
 stack_after false method at words extra below = Call (frame method at words extra) ∷ below
 
-module _ (new : List (List ℕ)) (d : ClassDesc) (is : ClassIs d) (things : List Thing) (main : ℕ) where
+module _ (new : Brought) (d : ClassDesc) (is : ClassIs d) (things : List Thing) (main : ℕ) where
   module _ (status : ClassState) (open_ : IsOpen status) (started : Bool) (method at units : ℕ) (words statics : List ℕ) (extra : List Value)
       (below : List Entry) (out : List ℕ) (sized : length statics ≡ length d.fields) where
     abbrev pub now : State

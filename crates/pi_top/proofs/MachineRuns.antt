@@ -2,7 +2,7 @@
 use Rattle.std.proofs.Common.{◌≡◌, ◌≢◌, ℕ, zero, suc, ◌+◌, Bool, true, false, List, ◌++◌, Some, None, refl, arith, ◌∙◌, ap}
 use Rattle.std.proofs.lemmas.Bool.Decides.{nat_tests}
 use Rattle.std.specs.Prelude.{◌==◌, if◌then◌else◌}
-use Rattle.pi_format.specs.Small.{small_chain}
+use Rattle.pi_duty.specs.Shape.{small_chain, Brought}
 use Rattle.pi_machine.specs.State.{Thing}
 use Rattle.pi_machine.specs.Ends.{Finish, End, Returned, StepLimit, Ends, next, next_by, goes_on, end_of, end_by, run_by, EndsFrom}
 use Rattle.pi_duty.specs.Duty.{lazy_setting}
@@ -15,7 +15,7 @@ use Rattle.pi_top.proofs.MachineSteps.{Found, Begun, begun_on, clinit_no_end, st
 differ : (a b : ℕ) → (a == b) ≡ false → a ≢ b
 differ a b e = grind (arith, nat_tests)
 
-module _ (new : List (List ℕ)) (v : View) (main clinit : ℕ) (things : List Thing) (found : Found new v main clinit) (limit : ℕ) where
+module _ (new : Brought) (v : View) (main clinit : ℕ) (things : List Thing) (found : Found new v main clinit) (limit : ℕ) where
   over_end : (s : Plain) (out : List ℕ) (at : Stage) → is_over at ≡ true → end_of (small_chain new v.class) (state_for new v main clinit things s at out) ≡ Some Returned
   over_end s out stage.Over e = refl
   over_end s out stage.Untouched e = cc

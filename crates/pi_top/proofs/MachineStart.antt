@@ -1,7 +1,7 @@
 -- The start of a lazy run of a small file, and what the machine finds in its program.
 use Rattle.std.proofs.Common.{◌≡◌, ℕ, zero, suc, ◌*◌, Bool, true, false, List, [], ◌∷◌, ◌++◌, length, map, Option, Some, None, refl, arith, ◌∙◌, ap, subst, zero-add}
 use Rattle.std.proofs.lemmas.List.{append-nil}
-use Rattle.std.specs.Prelude.{◌==◌, drop, option_map, option_and_then, slice_get, replicate, flat_map, position, slice_index, unwrap_or, codes, if◌then◌else◌}
+use Rattle.std.specs.Prelude.{◌==◌, ◌&&◌, drop, option_map, option_and_then, slice_get, replicate, flat_map, position, slice_index, unwrap_or, codes, if◌then◌else◌}
 use Rattle.std.specs.List.{list_all, list_any}
 use Rattle.pi_model.specs.declared.describe.ClassDesc.{ClassDesc}
 use Rattle.pi_model.specs.declared.describe.FieldDesc.{FieldDesc}
@@ -14,7 +14,8 @@ use Rattle.pi_model.specs.Fields.{first_value}
 use Rattle.pi_model.specs.Known.{descriptor_of}
 use Rattle.pi_format.specs.Core.{core_names, int_name, object_name, out_name}
 use Rattle.pi_model.specs.Distinct.{all_distinct}
-use Rattle.pi_format.specs.Small.{small_chain, field_fits, is_static, has_text}
+use Rattle.pi_duty.specs.Small.{field_fits, has_no_value, is_static, has_text}
+use Rattle.pi_duty.specs.Shape.{small_chain, Brought}
 use Rattle.pi_model.specs.declared.numbers.NameNo.{NameNo}
 use Rattle.pi_top.proofs.Lookups.{ClassIs}
 use Rattle.pi_machine.specs.Start.{first_status, first_values, argument_bytes, is_main, main_in, main_of}
@@ -26,7 +27,7 @@ use Rattle.pi_top.proofs.Words.{words_of}
 empty_array : (w : ℕ) → sized w 0 ≡ 16
 empty_array w = let z : w * 0 ≡ 0 = omega arith in rw z refl
 
-module _ (new : List (List ℕ)) (d : ClassDesc) where
+module _ (new : Brought) (d : ClassDesc) where
   -- without arguments there are sixteen bytes
   pub bytes_at_start : argument_bytes (small_chain new d) [] ≡ 16
   bytes_at_start = zero-add _ ∙ empty_array (width_of (slice_index (units_of (small_chain new d) (unwrap_or (name_of (small_chain new d) (codes "[Ljava/lang/String;")) 0)) 1))
@@ -34,7 +35,7 @@ module _ (new : List (List ℕ)) (d : ClassDesc) where
   first_zero : (f : FieldDesc) → field_fits f ≡ true → first_value (small_chain new d) f ≡ Word 0
   unfolding core_names
   first_zero f e =
-      let h : (same_name f.ty int_name ≡ true) × (is_static f.flags ≡ true) = both _ _ e in
+      let h : (same_name f.ty int_name ≡ true) × ((is_static f.flags && has_no_value f) ≡ true) = both _ _ e in
       let i : f.ty ≡ int_name = same_name-is _ _ h.0 in
       rw i refl
 
@@ -94,19 +95,19 @@ has_text_of names n text (Some units) is e =
     let h : same_text units text ≡ true = rw is at e in
     is ∙ ap Some (same_text-is units text h)
 
-module _ (new : List (List ℕ)) (d : ClassDesc) (text : List ℕ) (is : ClassIs d) (distinct : all_distinct same_text (core_names ++ new) ≡ true)
-    (named : has_text (core_names ++ new) d.name text ≡ true) where
-  there : slice_get (core_names ++ new) d.name.0 ≡ Some text
-  there = has_text_of (core_names ++ new) d.name text (slice_get (core_names ++ new) d.name.0) refl named
+module _ (new : Brought) (d : ClassDesc) (text : List ℕ) (is : ClassIs d) (distinct : all_distinct same_text (core_names ++ new.names) ≡ true)
+    (named : has_text (core_names ++ new.names) d.name text ≡ true) where
+  there : slice_get (core_names ++ new.names) d.name.0 ≡ Some text
+  there = has_text_of (core_names ++ new.names) d.name text (slice_get (core_names ++ new.names) d.name.0) refl named
 
-  named_apart : (k : ℕ) → (0 == k) ≡ false → (1 == k) ≡ false → slice_get (core_names ++ new) k ≡ Some text
+  named_apart : (k : ℕ) → (0 == k) ≡ false → (1 == k) ≡ false → slice_get (core_names ++ new.names) k ≡ Some text
       → (same_text (codes "Ljava/lang/Object;") text ≡ false) × (same_text (codes "Lpi/Out;") text ≡ false)
   unfolding core_names
   named_apart zero a b g = cc
   named_apart (suc zero) a b g = cc
   named_apart (suc (suc k)) a b g = (
-    first_apart (codes "Ljava/lang/Object;") (codes "Lpi/Out;") (drop 2 (core_names ++ new)) distinct (suc k) text g,
-    second_apart (codes "Ljava/lang/Object;") (codes "Lpi/Out;") (drop 2 (core_names ++ new)) distinct k text g,
+    first_apart (codes "Ljava/lang/Object;") (codes "Lpi/Out;") (drop 2 (core_names ++ new.names)) distinct (suc k) text g,
+    second_apart (codes "Ljava/lang/Object;") (codes "Lpi/Out;") (drop 2 (core_names ++ new.names)) distinct k text g,
   )
 
   named_object : is_named (small_chain new d) object_name text ≡ false

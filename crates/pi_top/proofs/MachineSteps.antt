@@ -19,10 +19,10 @@ use Rattle.pi_model.specs.declared.reason.ClassState.TheVariants.{Fresh, InProgr
 use Rattle.pi_model.specs.Program.{method_number}
 use Rattle.pi_model.specs.Search.{in_class, method_of}
 use Rattle.pi_model.specs.Values.{Value, Word, At, Num}
-use Rattle.pi_format.specs.Small.{small_chain, insn_fits, line_fits}
+use Rattle.pi_duty.specs.Small.{insn_fits, line_fits, has_no_value, is_zero}
+use Rattle.pi_duty.specs.Shape.{small_chain, laid_from, Brought}
 use Rattle.pi_model.specs.declared.describe.Init.{Init}
 use Rattle.pi_model.specs.declared.describe.Init.TheVariants as init
-use Rattle.pi_format.specs.Shape.{laid_from, has_no_value, is_zero}
 use Rattle.pi_machine.specs.State.{Thing, Entered, ValuesSet, Running}
 use Rattle.pi_machine.specs.Codes.{code_of, line_of}
 use Rattle.pi_machine.specs.Rows.{row}
@@ -66,7 +66,7 @@ abbrev pub address : Code → ℕ → ℕ
 address code line = line_address (slice_get code.insns line)
 
 -- the initialiser of the class, or that there is none
-pub record ClinitCode (new : List (List ℕ)) (d : ClassDesc) (number : ℕ) (code : Code) : Type 0 where
+pub record ClinitCode (new : Brought) (d : ClassDesc) (number : ℕ) (code : Code) : Type 0 where
   pub place : ℕ
   pub found : clinit_of (small_chain new d) d ≡ Some place
   pub is_number : method_number (small_chain new d) 2 place ≡ number
@@ -75,12 +75,12 @@ pub record ClinitCode (new : List (List ℕ)) (d : ClassDesc) (number : ℕ) (co
   pub laid : laid_from 0 code.insns ≡ true
   pub narrow : code.regs < 65536
 
-abbrev pub ClinitFound : List (List ℕ) → ClassDesc → ℕ → Option Code → Type 0
+abbrev pub ClinitFound : Brought → ClassDesc → ℕ → Option Code → Type 0
 ClinitFound new d number None = clinit_of (small_chain new d) d ≡ None
 ClinitFound new d number (Some code) = ClinitCode new d number code
 
 -- what the machine finds in the program of a small file
-pub record Found (new : List (List ℕ)) (v : View) (main clinit : ℕ) : Type 0 where
+pub record Found (new : Brought) (v : View) (main clinit : ℕ) : Type 0 where
   pub class : ClassIs v.class
   pub no_values : list_all has_no_value v.class.fields ≡ true
   pub place : ℕ
@@ -111,7 +111,7 @@ abbrev pub next_stack : Bool → ℕ → Code → ℕ → List ℕ → List Valu
 next_stack true method code line words extra below = on_frame past_call below
 next_stack false method code line words extra below = Call (frame method (address code (line + 1)) words extra) ∷ below
 
-module _ (new : List (List ℕ)) (d : ClassDesc) (is : ClassIs d) (things : List Thing) (main : ℕ) (method : ℕ) (code : Code)
+module _ (new : Brought) (d : ClassDesc) (is : ClassIs d) (things : List Thing) (main : ℕ) (method : ℕ) (code : Code)
     (coded : code_of (small_chain new d) method ≡ Some code) (laid : laid_from 0 code.insns ≡ true)
     (status : ClassState) (open_ : IsOpen status) (started : Bool) (f : Registers) (fits : FrameFits d code f)
     (statics : List ℕ) (sized : length statics ≡ length d.fields) (extra : List Value) (below : List Entry) (out : List ℕ) where
@@ -176,7 +176,7 @@ values_none n (f ∷ fs) e =
     let h : (has_no_value f ≡ true) × (list_all has_no_value fs ≡ true) = both _ _ e in
     rw (no_deeds n f.init h.0) (values_none (n + 1) fs h.1)
 
-module _ (new : List (List ℕ)) (v : View) (main clinit : ℕ) (things : List Thing) where
+module _ (new : Brought) (v : View) (main clinit : ℕ) (things : List Thing) where
   -- the status of the class and the stack, by the stage
   abbrev pub status_at : Stage → ClassState
   status_at stage.Untouched = Fresh

@@ -6,21 +6,28 @@ use Rattle.pi_base.specs.declared.status.Status.{Status}
 use Rattle.pi_base.specs.declared.status.Status.TheVariants as statuses
 use Rattle.pi_base.specs.Outside.{grown}
 use Rattle.pi_model.specs.Program.{Program}
-use Rattle.pi_format.specs.Small.{small_program}
+use Rattle.pi_format.specs.Core.{core_program}
+use Rattle.pi_format.specs.Rules as rules
+use Rattle.pi_format.specs.Rules.{broken_rule}
+use Rattle.pi_format.specs.Says.{SaysNext, with_said}
+use Rattle.pi_dexraw.specs.declared.fault.DexFault.{DexFault}
+use Rattle.pi_dexraw.specs.declared.fault.DexFault.TheVariants as dex
+use Rattle.pi_dexraw.specs.Asked.{Tells}
+use Rattle.pi_duty.specs.Small.{is_small}
+use Rattle.pi_top.specs.Faults.{fault_of}
 use Rattle.pi_machine.specs.Start.{main_of}
 use Rattle.pi_machine.specs.Ends as ends
 use Rattle.pi_machine.specs.Ends.{End, Finish, EndsWith}
 use Rattle.pi_duty.specs.Words.{LazyWords}
-use Rattle.pi_duty.specs.Lines.{usage_line, missing_line, read_fault_line, made_line, too_large_line}
-use Rattle.pi_duty.specs.Duty.{Contents, Owed, RunOwes, FileOwes, LengthOwes, LazyOwes, ended, end_status, end_lines, lazy_setting, most_bytes, refused}
+use Rattle.pi_duty.specs.Lines.{usage_line, missing_line, read_fault_line, dex_line, made_line, too_large_line, not_built_line}
+use Rattle.pi_duty.specs.Duty.{Contents, Owed, RunOwes, ProgramOwes, FileOwes, LengthOwes, LazyOwes, ended, end_status, end_lines, lazy_setting, most_bytes, refused}
 use Rattle.pi_top.specs.declared.plain.run.RunEnd.{RunEnd}
 use Rattle.pi_top.specs.declared.plain.run.RunEnd.TheVariants.{Returned, Limited, OutFault}
-use Rattle.pi_small.specs.declared.fault.SmallFault.{SmallFault}
-use Rattle.pi_small.specs.declared.fault.SmallFault.TheVariants.{OutOfMemory, NotSmall}
+use Rattle.pi_top.specs.declared.file.fault.FileFault.{FileFault}
+use Rattle.pi_top.specs.declared.file.fault.FileFault.TheVariants as fault
 use Rattle.pi_top.specs.declared.outcome.Outcome.{Outcome}
-use Rattle.pi_top.specs.declared.outcome.Outcome.TheVariants.{Usage, Missing, ReadFault, TooLarge, Memory, NotBuilt, Ran}
+use Rattle.pi_top.specs.declared.outcome.Outcome.TheVariants.{Usage, Missing, ReadFault, TooLarge, Memory, Broken, NotBuilt, Ran}
 use Rattle.pi_top.specs.Answer.{RunEnds, AnswersRun, OwesOver, Answered, ends_run, is_owed}
-use Rattle.pi_small.specs.Says.{Says}
 use Rattle.pi_top.specs.Outcome.{Gives, EndGives, FileGives, OutcomeGives, status_of, lines_of}
 
 run_owes : (p : Program) (steps : ℕ) (main : Option ℕ) (method : ℕ) (f : Finish) → main ≡ Some method → EndsWith p (lazy_setting steps) method [] f → RunOwes p steps main (ended p f)
@@ -29,24 +36,32 @@ run_owes p steps (Some m) method f is h =
     let e : method ≡ m = cc in
     (f, (subst (λ k. EndsWith p (lazy_setting steps) k [] f) e h, refl))
 
--- a small program owes what its run ends with
-file_owes : (l : LazyWords) (program : Option Program) (p : Program) (f : Finish) → program ≡ Some p → RunEnds p l.main l.steps f → FileOwes l program (ended p f)
-file_owes l None p f is h = absurd (cc)
-file_owes l (Some q) p f is h =
-    let e : p ≡ q = cc in
-    subst (λ r. RunOwes r l.steps (main_of r l.main) (ended p f)) e (run_owes p l.steps (main_of p l.main) h.method f h.found h.ends)
+-- a small program owes what its run ends with, and another a refusal
+program_owes : (small : Bool) (l : LazyWords) (p : Program) (f : Finish) → small ≡ true → RunEnds p l.main l.steps f → ProgramOwes small l p (ended p f)
+program_owes true l p f is h = run_owes p l.steps (main_of p l.main) h.method f h.found h.ends
+program_owes false l p f is h = absurd (cc)
 
--- a file that is not small owes a refusal
-none_owes : (l : LazyWords) (program : Option Program) → program ≡ None → FileOwes l program (refused statuses.NotBuilt (codes "not built\n"))
-none_owes l None is = refl
-none_owes l (Some q) is = absurd (cc)
+other_owes : (small : Bool) (l : LazyWords) (p : Program) → small ≡ false → ProgramOwes small l p (refused statuses.NotBuilt not_built_line)
+other_owes false l p is = refl
+other_owes true l p is = absurd (cc)
 
-by_length : (long : Bool) (l : LazyWords) (file : List ℕ) (o : Owed) → long ≡ false → FileOwes l (small_program l.main file) o → LengthOwes long l file o
+-- a file that breaks no rule owes what the program does that it says, and another a refusal
+kept_owes : (l : LazyWords) (broken : Option rules.Broken) (p : Program) (o : Owed) → broken ≡ None → ProgramOwes (is_small l.main p) l p o → FileOwes l broken p o
+kept_owes l None p o is h = h
+kept_owes l (Some b) p o is h = absurd (cc)
+
+broken_owes : (l : LazyWords) (broken : Option rules.Broken) (p : Program) (b : rules.Broken) → broken ≡ Some b → FileOwes l broken p (refused statuses.Dex (dex_line l.file b.rule b.at))
+broken_owes l None p b is = absurd (cc)
+broken_owes l (Some x) p b is =
+    let same : x ≡ b = cc in
+    ap (λ (y : rules.Broken). refused statuses.Dex (dex_line l.file y.rule y.at)) (sym same)
+
+by_length : (long : Bool) (l : LazyWords) (file : List ℕ) (o : Owed) → long ≡ false → FileOwes l (broken_rule file) (with_said core_program file) o → LengthOwes long l file o
 by_length true l file o is h = absurd (cc)
 by_length false l file o is h = h
 
 -- a file within the limit owes what its content does
-short_owes : (l : LazyWords) (file : List ℕ) (o : Owed) → length file ≤ most_bytes → FileOwes l (small_program l.main file) o → LazyOwes l (Some file) o
+short_owes : (l : LazyWords) (file : List ℕ) (o : Owed) → length file ≤ most_bytes → FileOwes l (broken_rule file) (with_said core_program file) o → LazyOwes l (Some file) o
 short_owes l file o short h =
     let e : nat_lt most_bytes (length file) ≡ false = grind (arith, nat_tests) in
     by_length _ l file o e h
@@ -87,12 +102,21 @@ end_gives owes p (Limited n) f before now due a = record {
 }
 end_gives owes p OutFault f before now due a = record { owed = ended p f; due = due; of_run = run_status f.end; begun = a }
 
-pub run_gives : (name main text file : List ℕ) (steps : ℕ) (p : Program) (end : RunEnd) (before now : Option (List ℕ)) → text ≡ main → length file ≤ most_bytes → small_program text file ≡ Some p → ((f : Finish) × (RunEnds p text steps f × AnswersRun end f before now)) → EndGives (LazyOwes (record { file = name; main = main; steps = steps }) (Some file)) end before now
-run_gives name main text file steps p end before now is short small ends =
+-- a file that says a program behind the first file owes what that program does
+said_owes : (l : LazyWords) (file : List ℕ) (p : Program) (o : Owed) → length file ≤ most_bytes → SaysNext core_program file p → ProgramOwes (is_small l.main p) l p o → LazyOwes l (Some file) o
+said_owes l file p o short says due =
+    let there : ProgramOwes (is_small l.main (with_said core_program file)) l (with_said core_program file) o =
+    subst (λ (q : Program). ProgramOwes (is_small l.main q) l q o) says.chain due in
+    short_owes l file o short (kept_owes l (broken_rule file) (with_said core_program file) o says.kept there)
+
+pub run_gives : (name main text file : List ℕ) (steps : ℕ) (p : Program) (end : RunEnd) (before now : Option (List ℕ)) → text ≡ main → length file ≤ most_bytes
+    → SaysNext core_program file p → is_small text p ≡ true → ((f : Finish) × (RunEnds p text steps f × AnswersRun end f before now))
+    → EndGives (LazyOwes (record { file = name; main = main; steps = steps }) (Some file)) end before now
+run_gives name main text file steps p end before now is short says small ends =
     let l : LazyWords = record { file = name; main = main; steps = steps } in
-    let small' : small_program main file ≡ Some p = subst (λ m. small_program m file ≡ Some p) is small in
+    let small' : is_small main p ≡ true = subst (λ m. is_small m p ≡ true) is small in
     let h : RunEnds p main steps ends.0 = subst (λ m. RunEnds p m steps ends.0) is ends.1.0 in
-    end_gives (LazyOwes l (Some file)) p end ends.0 before now (short_owes l file _ short (file_owes l (small_program main file) p ends.0 small' h)) ends.1.1
+    end_gives (LazyOwes l (Some file)) p end ends.0 before now (said_owes l file p _ short says (program_owes (is_small main p) l p ends.0 small' h)) ends.1.1
 
 grown_nil : (before : Option (List ℕ)) → before ≡ grown before []
 grown_nil None = refl
@@ -102,14 +126,36 @@ grown_nil (Some bytes) = ap (λ (b : List ℕ). Some b) (sym (append-nil bytes))
 refused_gives : (owes : Owed → Type 0) (status : Status) (line : List ℕ) (before : Option (List ℕ)) → owes (refused status line) → Gives owes status line before before
 refused_gives owes status line before due = record { owed = refused status line; due = due; has_status = refl; told = refl; written = grown_nil before }
 
-pub fault_gives : (name main text file : List ℕ) (steps : ℕ) (before : Option (List ℕ)) (fault : SmallFault) (r : Result RunEnd SmallFault) → r ≡ Err fault → text ≡ main → length file ≤ most_bytes → Says (small_program text file) (Err fault) → FileGives (LazyOwes (record { file = name; main = main; steps = steps }) (Some file)) r before before
-fault_gives name main text file steps before fault (Ok end) e is short says = absurd (cc)
-fault_gives name main text file steps before fault (Err OutOfMemory) e is short says = refl
-fault_gives name main text file steps before fault (Err NotSmall) e is short says =
-    let same : fault ≡ NotSmall = cc in
+-- a program that is not small
+pub other_gives : (name main text file : List ℕ) (steps : ℕ) (p : Program) (before : Option (List ℕ)) → text ≡ main → length file ≤ most_bytes
+    → SaysNext core_program file p → is_small text p ≡ false
+    → Gives (LazyOwes (record { file = name; main = main; steps = steps }) (Some file)) statuses.NotBuilt not_built_line before before
+other_gives name main text file steps p before is short says small =
     let l : LazyWords = record { file = name; main = main; steps = steps } in
-    let none' : small_program main file ≡ None = subst (λ m. small_program m file ≡ None) is (subst (λ f. Says (small_program text file) (Err f)) same says) in
-    refused_gives _ _ _ before (short_owes l file _ short (none_owes l (small_program main file) none'))
+    let small' : is_small main p ≡ false = subst (λ m. is_small m p ≡ false) is small in
+    refused_gives _ _ _ before (said_owes l file p _ short says (other_owes (is_small main p) l p small'))
+
+-- a file that breaks a rule
+pub broken_gives : (l : LazyWords) (file : List ℕ) (rule at : ℕ) (before : Option (List ℕ)) → length file ≤ most_bytes
+    → broken_rule file ≡ Some (record { rule = rule; at = at }) → Gives (LazyOwes l (Some file)) statuses.Dex (dex_line l.file rule at) before before
+broken_gives l file rule at before short is =
+    refused_gives _ _ _ before (short_owes l file _ short (broken_owes l (broken_rule file) (with_said core_program file) (record { rule = rule; at = at }) is))
+
+-- what the reader answers, where it refuses the file
+pub reader_gives : (A : Type 0) (name main file : List ℕ) (steps : ℕ) (before : Option (List ℕ)) (f : DexFault) (e : FileFault) (r : Result RunEnd FileFault) → r ≡ Err e → e ≡ fault_of f
+    → length file ≤ most_bytes → Tells {A = A} (broken_rule file) (Err f) → FileGives name (LazyOwes (record { file = name; main = main; steps = steps }) (Some file)) r before before
+reader_gives A name main file steps before f e (Ok end) is of short told = absurd (cc)
+reader_gives A name main file steps before dex.OutOfMemory e (Err fault.OutOfMemory) is of short told = refl
+reader_gives A name main file steps before dex.OutOfMemory e (Err (fault.Broken rule at)) is of short told = absurd (cc)
+reader_gives A name main file steps before dex.OutOfMemory e (Err fault.NotBuilt) is of short told = absurd (cc)
+reader_gives A name main file steps before (dex.Rule rule at) e (Err fault.OutOfMemory) is of short told = absurd (cc)
+reader_gives A name main file steps before (dex.Rule rule at) e (Err fault.NotBuilt) is of short told = absurd (cc)
+reader_gives A name main file steps before (dex.Rule rule at) e (Err (fault.Broken r2 a2)) is of short told =
+    let same_rule : rule ≡ r2 = cc in
+    let same_at : at ≡ a2 = cc in
+    subst (λ a. Gives (LazyOwes (record { file = name; main = main; steps = steps }) (Some file)) statuses.Dex (dex_line name r2 a) before before) same_at
+    (subst (λ r. Gives (LazyOwes (record { file = name; main = main; steps = steps }) (Some file)) statuses.Dex (dex_line name r at) before before) same_rule
+    (broken_gives (record { file = name; main = main; steps = steps }) file rule at before short told))
 
 -- a store that shows what was found, or that shows nothing
 over : (shown : Bool) (contents : Contents) (l : LazyWords) (found : Option (List ℕ)) (o : Owed) → (IsTrue shown → contents l.file ≡ found) → LazyOwes l found o → OwesOver shown contents (Some l) o
@@ -136,18 +182,25 @@ end_map P Q (Returned n) before now k g = record { owed = g.owed; due = k g.owed
 end_map P Q (Limited n) before now k g = record { owed = g.owed; due = k g.owed g.due; has_status = g.has_status; told = g.told; written = g.written }
 end_map P Q OutFault before now k g = record { owed = g.owed; due = k g.owed g.due; of_run = g.of_run; begun = g.begun }
 
-pub file_over : (shown : Bool) (contents : Contents) (l : LazyWords) (file text : List ℕ) (r : Result RunEnd SmallFault) (before now : Option (List ℕ)) → text ≡ file → (IsTrue shown → contents l.file ≡ Some file) → FileGives (LazyOwes l (Some text)) r before now → FileGives (OwesOver shown contents (Some l)) r before now
-file_over shown contents l file text (Ok end) before now same h g =
-    end_map (LazyOwes l (Some text)) (OwesOver shown contents (Some l)) end before now
-    (λ o due. over shown contents l (Some file) o h (subst (λ t. LazyOwes l (Some t) o) same due)) g
-file_over shown contents l file text (Err OutOfMemory) before now same h g = g
-file_over shown contents l file text (Err NotSmall) before now same h g = record {
+-- the same of a refusal
+refusal_over : (shown : Bool) (contents : Contents) (l : LazyWords) (file text : List ℕ) (status : Status) (lines : List ℕ) (before now : Option (List ℕ)) → text ≡ file
+    → (IsTrue shown → contents l.file ≡ Some file) → Gives (LazyOwes l (Some text)) status lines before now → Gives (OwesOver shown contents (Some l)) status lines before now
+refusal_over shown contents l file text status lines before now same h g = record {
   owed = g.owed;
   due = over shown contents l (Some file) g.owed h (subst (λ t. LazyOwes l (Some t) g.owed) same g.due);
   has_status = g.has_status;
   told = g.told;
   written = g.written;
 }
+
+pub file_over : (shown : Bool) (contents : Contents) (l : LazyWords) (file text : List ℕ) (r : Result RunEnd FileFault) (before now : Option (List ℕ)) → text ≡ file
+    → (IsTrue shown → contents l.file ≡ Some file) → FileGives l.file (LazyOwes l (Some text)) r before now → FileGives l.file (OwesOver shown contents (Some l)) r before now
+file_over shown contents l file text (Ok end) before now same h g =
+    end_map (LazyOwes l (Some text)) (OwesOver shown contents (Some l)) end before now
+    (λ o due. over shown contents l (Some file) o h (subst (λ t. LazyOwes l (Some t) o) same due)) g
+file_over shown contents l file text (Err fault.OutOfMemory) before now same h g = g
+file_over shown contents l file text (Err (fault.Broken rule at)) before now same h g = refusal_over shown contents l file text statuses.Dex (dex_line l.file rule at) before now same h g
+file_over shown contents l file text (Err fault.NotBuilt) before now same h g = refusal_over shown contents l file text statuses.NotBuilt not_built_line before now same h g
 
 pub missing_gives : (shown : Bool) (contents : Contents) (l : LazyWords) (before : Option (List ℕ)) → (IsTrue shown → contents l.file ≡ None) → Gives (OwesOver shown contents (Some l)) statuses.Missing (missing_line l.file) before before
 missing_gives shown contents l before h = refused_gives _ _ _ before (over shown contents l None _ h refl)
@@ -173,6 +226,7 @@ module _ (shown : Bool) (contents : Contents) (command : Option LazyWords) (befo
   owed_of (ReadFault name) e g told due = let h : is_owed status ≡ false = ap is_owed e in absurd (cc)
   owed_of (TooLarge name) e g told due = given _ _ e told g
   owed_of Memory e g told due = let h : is_owed status ≡ false = ap is_owed e in absurd (cc)
+  owed_of (Broken name rule at) e g told due = given _ _ e told g
   owed_of NotBuilt e g told due = given _ _ e told g
   owed_of (Ran (Returned steps)) e g told due = given _ _ e told g
   owed_of (Ran (Limited steps)) e g told due = given _ _ e told g
@@ -189,6 +243,7 @@ module _ (shown : Bool) (contents : Contents) (command : Option LazyWords) (befo
   read_fault_of (ReadFault name) e g told is = named command name.now g.1 told
   read_fault_of (TooLarge name) e g told is = absurd (cc)
   read_fault_of Memory e g told is = absurd (cc)
+  read_fault_of (Broken name rule at) e g told is = absurd (cc)
   read_fault_of NotBuilt e g told is = absurd (cc)
   read_fault_of (Ran (Returned steps)) e g told is = absurd (cc)
   read_fault_of (Ran (Limited steps)) e g told is = absurd (cc)

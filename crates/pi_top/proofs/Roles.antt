@@ -10,7 +10,8 @@ use Rattle.pi_model.specs.declared.describe.Code.{Code}
 use Rattle.pi_model.specs.Program.{same_name}
 use Rattle.pi_model.specs.Search.{same_names}
 use Rattle.pi_format.specs.Core.{main_name, clinit_name, void_name, strings_name, core_names}
-use Rattle.pi_format.specs.Small.{is_static, line_fits, ends_in_return, code_fits, method_fits, main_fits, clinit_fits, methods_fit, small_chain}
+use Rattle.pi_duty.specs.Small.{is_static, line_fits, lies, is_empty, ends_in_return, code_fits, method_fits, main_fits, clinit_fits, methods_fit}
+use Rattle.pi_duty.specs.Shape.{small_chain, Brought}
 use Rattle.pi_machine.specs.Start.{is_main}
 use Rattle.pi_machine.specs.Initialisation.{is_clinit}
 use Rattle.pi_machine.proofs.Truths.{both, either, same_of}
@@ -56,9 +57,12 @@ method_with : (d : ClassDesc) (name : NameNo) (params : List NameNo) (ins : ℕ)
     → m.name ≡ name → m.params ≡ params → m.ret ≡ void_name → is_static m.flags ≡ true → code_fits d ins code ≡ true → MethodIs d name params ins m
 method_with d name params ins m None is a b c s e = cc
 method_with d name params ins m (Some code) is a b c s e =
-    let h : ((code.ins == ins) ≡ true) × ((nat_le ins code.regs && (list_all (line_fits d (code.regs - ins)) code.insns && ends_in_return code.insns)) ≡ true) = both _ _ e in
-    let i : (nat_le ins code.regs ≡ true) × ((list_all (line_fits d (code.regs - ins)) code.insns && ends_in_return code.insns) ≡ true) = both _ _ h.1 in
-    let j : (list_all (line_fits d (code.regs - ins)) code.insns ≡ true) × (ends_in_return code.insns ≡ true) = both _ _ i.1 in
+    let lines : Bool = list_all (line_fits d (code.regs - ins)) code.insns in
+    let whole : Bool = lies 0 code.units code.insns && is_empty code.tries in
+    let h : ((code.ins == ins) ≡ true) × ((nat_le ins code.regs && (lines && (ends_in_return code.insns && whole))) ≡ true) = both _ _ e in
+    let i : (nat_le ins code.regs ≡ true) × ((lines && (ends_in_return code.insns && whole)) ≡ true) = both _ _ h.1 in
+    let j : (lines ≡ true) × ((ends_in_return code.insns && whole) ≡ true) = both _ _ i.1 in
+    let k : (ends_in_return code.insns ≡ true) × (whole ≡ true) = both _ _ j.1 in
     record {
       named = a;
       takes = b;
@@ -69,7 +73,7 @@ method_with d name params ins m (Some code) is a b c s e =
       words = same_of code.ins ins h.0;
       room = le-of ins code.regs i.0;
       fits = j.0;
-      ends = j.1;
+      ends = k.0;
     }
 
 method_is : (d : ClassDesc) (name : NameNo) (params : List NameNo) (ins : ℕ) (m : MethodDesc) → method_fits d name params ins m ≡ true → MethodIs d name params ins m
@@ -86,7 +90,7 @@ MainIs d m = MethodIs d main_name (strings_name ∷ []) 1 m
 abbrev pub ClinitIs : ClassDesc → MethodDesc → Type 0
 ClinitIs d m = MethodIs d clinit_name [] 0 m
 
-module _ (new : List (List ℕ)) (d : ClassDesc) where
+module _ (new : Brought) (d : ClassDesc) where
   main_is_main : (m : MethodDesc) → MethodIs d main_name (strings_name ∷ []) 1 m → is_main (small_chain new d) m ≡ true
   unfolding is_main core_names
   main_is_main m s = rw (s.named, s.takes, s.gives, s.static, s.coded) refl

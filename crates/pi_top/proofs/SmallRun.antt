@@ -12,8 +12,8 @@ use Rattle.pi_model.specs.Search.{class_at}
 use Rattle.pi_model.specs.Texts.{same_text}
 use Rattle.pi_format.specs.Core.{core_names, main_name, clinit_name}
 use Rattle.pi_model.specs.Distinct.{all_distinct}
-use Rattle.pi_format.specs.Small.{small_chain, class_fits, has_text, line_fits, ends_in_return}
-use Rattle.pi_format.specs.Shape.{laid_from, code_laid, code_small, method_laid, method_small, has_no_value, IsSmall}
+use Rattle.pi_duty.specs.Small.{class_fits, has_text, line_fits, ends_in_return, has_no_value}
+use Rattle.pi_duty.specs.Shape.{small_chain, laid_from, code_laid, code_small, method_laid, method_small, IsSmall, Brought}
 use Rattle.pi_machine.specs.State.{Made}
 use Rattle.pi_machine.specs.Start.{start_state, argument_bytes, argument_objects}
 use Rattle.pi_machine.specs.Ends.{Finish, EndsFrom, first_tally}
@@ -33,10 +33,10 @@ use Rattle.pi_top.proofs.MachineStart.{bytes_at_start, statics_at_start, statuse
 use Rattle.pi_top.proofs.MachineRuns.{machine_ends}
 
 -- what is known of the class of a small file
-pub record ClassFacts (text : List ℕ) (new : List (List ℕ)) (d : ClassDesc) : Type 0 where
+pub record ClassFacts (text : List ℕ) (new : Brought) (d : ClassDesc) : Type 0 where
   pub fits : class_fits d ≡ true
-  pub distinct : all_distinct same_text (core_names ++ new) ≡ true
-  pub named : has_text (core_names ++ new) d.name text ≡ true
+  pub distinct : all_distinct same_text (core_names ++ new.names) ≡ true
+  pub named : has_text (core_names ++ new.names) d.name text ≡ true
   pub laid : list_all method_laid d.methods ≡ true
   pub narrow : list_all method_small d.methods ≡ true
   pub no_values : list_all has_no_value d.fields ≡ true
@@ -69,7 +69,7 @@ some_of (l ∷ ls) e = omega arith
 blank_fits : (d : ClassDesc) (code : Code) (n : ℕ) → list_all (line_fits d n) code.insns ≡ true → ends_in_return code.insns ≡ true → FrameFits d code (blank n)
 blank_fits d code n fits ends = record { stands = some_of code.insns ends; fits = rw (length-replicate {A = ℕ} n 0) fits; ends = ends }
 
-module _ (text : List ℕ) (new : List (List ℕ)) (v : View) (facts : ClassFacts text new v.class)
+module _ (text : List ℕ) (new : Brought) (v : View) (facts : ClassFacts text new v.class)
     (sees_main : code_in (method_named main_name v.class.methods) ≡ Some v.main) (sees_clinit : code_in (method_named clinit_name v.class.methods) ≡ v.clinit) where
   is : ClassIs v.class
   is = class_is v.class facts.fits
@@ -200,7 +200,7 @@ small_run text p v limit f s sees e =
     subst (λ (q : Program). RunEnds q text limit f) same r
 
 -- the class of a small file has a main with code, which has a register for its argument
-has_main : (new : List (List ℕ)) (d : ClassDesc) → RolesOf new d d.methods → HasMain (small_chain new d)
+has_main : (new : Brought) (d : ClassDesc) → RolesOf new d d.methods → HasMain (small_chain new d)
 has_main new d r =
     let e : code_in (method_named main_name d.methods) ≡ Some r.is.code = ap code_in r.named ∙ r.is.coded in
     ap is_some e
@@ -212,7 +212,7 @@ small_has_main text p s =
 small_classes : (text : List ℕ) (p : Program) → IsSmall text p → 2 < length p.classes
 small_classes text p s = subst (λ (q : Program). 2 < length q.classes) (sym s.chain) (lit< tt)
 
-room_at : (text : List ℕ) (new : List (List ℕ)) (v : View) → ClassFacts text new v.class → code_in (method_named main_name v.class.methods) ≡ Some v.main → 1 ≤ v.main.regs
+room_at : (text : List ℕ) (new : Brought) (v : View) → ClassFacts text new v.class → code_in (method_named main_name v.class.methods) ≡ Some v.main → 1 ≤ v.main.regs
 room_at text new v facts sees =
     let r : RolesOf new v.class v.class.methods = roles_of new v.class v.class.methods (class_is v.class facts.fits).methods in
     let e : r.is.code ≡ v.main = some_same r.is.code v.main (sym r.is.coded ∙ (sym (ap code_in r.named) ∙ sees)) in

@@ -1,15 +1,18 @@
 -- What the top call answers, beside what its words owe.
-use Rattle.std.specs.Prelude.{◌≡◌, ℕ, ◌≤◌, List, [], length, Option, Some, Result, Ok, Err, Bool, true, false, IsTrue, ◌⊎◌, ◌||◌, ◌&&◌, ◌==◌}
+use Rattle.std.specs.Prelude.{◌≡◌, ℕ, ◌≤◌, List, [], length, Option, Some, None, Result, Ok, Err, Bool, true, false, IsTrue, ◌⊎◌, ◌||◌, ◌&&◌, ◌==◌}
 use Rattle.pi_base.specs.declared.status.Status.{Status}
 use Rattle.pi_base.specs.declared.status.Status.TheVariants as statuses
-use Rattle.pi_base.specs.declared.status.Status.TheVariants.{Done, Uncaught, Usage, Missing, ReadFault, Steps, Heap, Frames, TooLarge, Memory, NotBuilt}
+use Rattle.pi_base.specs.declared.status.Status.TheVariants.{Done, Uncaught, Usage, Missing, ReadFault, Dex, Steps, Heap, Frames, TooLarge, Memory, NotBuilt}
 use Rattle.pi_base.specs.Status.{code_of}
 use Rattle.pi_base.specs.Outside.{Rose, grown, Begins}
 use Rattle.pi_model.specs.Program.{Program}
-use Rattle.pi_format.specs.Small.{small_program}
+use Rattle.pi_format.specs.Core.{core_program}
+use Rattle.pi_format.specs.Rules.{broken_rule}
+use Rattle.pi_format.specs.Says.{with_said}
 use Rattle.pi_machine.specs.Start.{main_of}
 use Rattle.pi_machine.specs.Ends as ends
 use Rattle.pi_machine.specs.Ends.{End, Finish, EndsWith}
+use Rattle.pi_duty.specs.Small.{is_small}
 use Rattle.pi_duty.specs.Words.{LazyWords}
 use Rattle.pi_duty.specs.Duty.{Contents, Owed, CommandOwes, Owes, end_status, lazy_setting, most_bytes}
 use Rattle.pi_top.specs.declared.plain.run.RunEnd.{RunEnd}
@@ -56,6 +59,7 @@ abbrev pub is_owed : Status → Bool
 is_owed Done = true
 is_owed Usage = true
 is_owed Missing = true
+is_owed Dex = true
 is_owed Steps = true
 is_owed TooLarge = true
 is_owed NotBuilt = true
@@ -95,8 +99,8 @@ pub record Cuts (Owing : Owed → Type 0) (before now : Option (List ℕ)) : Typ
   pub of_run : IsTrue (ends_run owed.status)
   pub begun : Begins owed.output before now
 
--- the words are a lazy run's, over a store that shows the file that they name, which is short enough to be read and is
--- small for the main class
+-- the words are a lazy run's, over a store that shows the file that they name, which is short enough to be read and
+-- breaks no rule; the program that it says behind the first file is small for the main class
 pub record IsSmallCall (shown : Bool) (contents : Contents) (command : Option LazyWords) : Type 0 where
   pub shows : IsTrue shown
   pub words : LazyWords
@@ -104,8 +108,10 @@ pub record IsSmallCall (shown : Bool) (contents : Contents) (command : Option La
   pub file : List ℕ
   pub there : contents words.file ≡ Some file
   pub within : length file ≤ most_bytes
+  pub kept : broken_rule file ≡ None
   pub program : Program
-  pub small : small_program words.main file ≡ Some program
+  pub said : program ≡ with_said core_program file
+  pub small : is_small words.main program ≡ true
 
 -- the machine ends the program's run, with a return or at the limit on steps, and the status says which
 pub record EndsAsRun (p : Program) (main : List ℕ) (steps : ℕ) (status : Status) : Type 0 where

@@ -1,4 +1,5 @@
 pub mod Answer
+pub mod Faults
 pub mod Outcome
 pub mod Places
 pub mod Plain

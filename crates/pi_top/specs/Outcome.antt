@@ -3,14 +3,14 @@ use Rattle.std.specs.Prelude.{◌≡◌, ℕ, List, ◌++◌, Option, Result, Ok
 use Rattle.pi_base.specs.declared.status.Status.{Status}
 use Rattle.pi_base.specs.declared.status.Status.TheVariants as statuses
 use Rattle.pi_duty.specs.Words.{LazyWords}
-use Rattle.pi_duty.specs.Lines.{usage_line, missing_line, read_fault_line, too_large_line, memory_line, not_built_line, out_fault_line, step_limit_line, made_line}
+use Rattle.pi_duty.specs.Lines.{usage_line, missing_line, read_fault_line, dex_line, too_large_line, memory_line, not_built_line, out_fault_line, step_limit_line, made_line}
 use Rattle.pi_duty.specs.Duty.{Contents, Owed}
 use Rattle.pi_top.specs.declared.plain.run.RunEnd.{RunEnd}
 use Rattle.pi_top.specs.declared.plain.run.RunEnd.TheVariants.{Returned, Limited, OutFault}
-use Rattle.pi_small.specs.declared.fault.SmallFault.{SmallFault}
-use Rattle.pi_small.specs.declared.fault.SmallFault.TheVariants.{OutOfMemory, NotSmall}
+use Rattle.pi_top.specs.declared.file.fault.FileFault.{FileFault}
+use Rattle.pi_top.specs.declared.file.fault.FileFault.TheVariants as fault
 use Rattle.pi_top.specs.declared.outcome.Outcome.{Outcome}
-use Rattle.pi_top.specs.declared.outcome.Outcome.TheVariants.{Usage, Missing, ReadFault, TooLarge, Memory, NotBuilt, Ran}
+use Rattle.pi_top.specs.declared.outcome.Outcome.TheVariants.{Usage, Missing, ReadFault, TooLarge, Memory, Broken, NotBuilt, Ran}
 use Rattle.pi_top.specs.Answer.{OwesOver, Answered, Cuts}
 
 abbrev pub status_of_end : RunEnd → Status
@@ -29,6 +29,7 @@ status_of (Missing name) = statuses.Missing
 status_of (ReadFault name) = statuses.ReadFault
 status_of (TooLarge name) = statuses.TooLarge
 status_of Memory = statuses.Memory
+status_of (Broken name rule at) = statuses.Dex
 status_of NotBuilt = statuses.NotBuilt
 status_of (Ran end) = status_of_end end
 
@@ -38,6 +39,7 @@ lines_of (Missing name) = missing_line name.now
 lines_of (ReadFault name) = read_fault_line name.now
 lines_of (TooLarge name) = too_large_line name.now
 lines_of Memory = memory_line
+lines_of (Broken name rule at) = dex_line name.now rule at
 lines_of NotBuilt = not_built_line
 lines_of (Ran end) = lines_of_end end
 
@@ -51,11 +53,12 @@ EndGives Owing (Returned steps) before now = Gives Owing statuses.Done (made_lin
 EndGives Owing (Limited steps) before now = Gives Owing statuses.Steps (step_limit_line ++ made_line steps) before now
 EndGives Owing OutFault before now = Cuts Owing before now
 
--- the same of a file that was read
-abbrev pub FileGives : (Owed → Type 0) → Result RunEnd SmallFault → Option (List ℕ) → Option (List ℕ) → Type 0
-FileGives Owing (Ok end) before now = EndGives Owing end before now
-FileGives Owing (Err NotSmall) before now = Gives Owing statuses.NotBuilt not_built_line before now
-FileGives Owing (Err OutOfMemory) before now = now ≡ before
+-- the same of a file of that name that was read
+abbrev pub FileGives : List ℕ → (Owed → Type 0) → Result RunEnd FileFault → Option (List ℕ) → Option (List ℕ) → Type 0
+FileGives name Owing (Ok end) before now = EndGives Owing end before now
+FileGives name Owing (Err (fault.Broken rule at)) before now = Gives Owing statuses.Dex (dex_line name rule at) before now
+FileGives name Owing (Err fault.NotBuilt) before now = Gives Owing statuses.NotBuilt not_built_line before now
+FileGives name Owing (Err fault.OutOfMemory) before now = now ≡ before
 
 -- the same of a command over a store
 abbrev pub OutcomeGives : Bool → Contents → Option LazyWords → Outcome → Option (List ℕ) → Option (List ℕ) → Type 0
@@ -64,5 +67,6 @@ OutcomeGives shown contents command (Missing name) before now = Gives (OwesOver 
 OutcomeGives shown contents command (ReadFault name) before now = (now ≡ before) × IsSomeAnd command (λ l. l.file ≡ name.now)
 OutcomeGives shown contents command (TooLarge name) before now = Gives (OwesOver shown contents command) statuses.TooLarge (too_large_line name.now) before now
 OutcomeGives shown contents command Memory before now = now ≡ before
+OutcomeGives shown contents command (Broken name rule at) before now = Gives (OwesOver shown contents command) statuses.Dex (dex_line name.now rule at) before now
 OutcomeGives shown contents command NotBuilt before now = Gives (OwesOver shown contents command) statuses.NotBuilt not_built_line before now
 OutcomeGives shown contents command (Ran end) before now = EndGives (OwesOver shown contents command) end before now

@@ -6,7 +6,7 @@ use Rattle.pi_model.specs.declared.describe.Code.{Code}
 use Rattle.pi_model.specs.declared.describe.Line.{Line}
 use Rattle.pi_model.specs.declared.insn.Insn.{Insn}
 use Rattle.pi_model.specs.declared.insn.Insn.TheVariants.{ReturnVoid}
-use Rattle.pi_format.specs.Small.{line_fits, ends_in_return}
+use Rattle.pi_duty.specs.Small.{line_fits, ends_in_return}
 use Rattle.pi_machine.specs.Ends.{Finish, End, Returned, StepLimit}
 use Rattle.pi_top.specs.declared.plain.place.Stage.{Stage}
 use Rattle.pi_top.specs.declared.plain.place.Stage.TheVariants.{Untouched, Entered, Valued, Initialising, Finishing, Ready, Running, Over}

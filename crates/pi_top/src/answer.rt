@@ -1,21 +1,17 @@
 // The top call. docs/commands.md states the commands.
-ghost use Rattle.std.specs.Prelude.{◌≡◌, ◌⊎◌, ◌↔◌, ◌≤◌, map, length, string_bytes, Some, None, IsTrue, IsSomeAnd, List, ℕ, false};
+ghost use Rattle.std.specs.Prelude.{◌≡◌, ◌⊎◌, ◌↔◌, ◌≤◌, map, length, string_bytes, Some, None, IsTrue, IsSomeAnd, false};
 ghost use Rattle.pi_base.specs.Outside.{Counts, Rose};
 ghost use Rattle.pi_duty.specs.Words.{lazy_words};
 ghost use Rattle.pi_duty.specs.Lines.{memory_line, out_fault_line, read_fault_line};
-ghost use Rattle.pi_duty.specs.Duty.{LazyOwes};
-ghost use Rattle.pi_top.specs.Answer.{Answered, Cuts, EndsAsRun, IsExact, IsSmallCall, OwesOver, Told, ends_in_out_fault, is_owed, is_status, may_come};
-ghost use Rattle.pi_top.specs.Outcome.{FileGives, OutcomeGives, status_of};
+ghost use Rattle.pi_top.specs.Answer.{Answered, Cuts, EndsAsRun, IsExact, IsSmallCall, OwesOver, Told, is_owed, is_status, may_come};
+ghost use Rattle.pi_top.specs.Outcome.{OutcomeGives, status_of};
 
 use crate::command::{LazyCall, read_words};
+use crate::file::{FileFault, run_file};
 use crate::outcome::Outcome;
-use crate::plain::run::RunEnd;
-use crate::plain::run_small;
 use pi_base::outside::{Sink, Store, StoreError};
 use pi_base::status::Status;
-use pi_duty::owes_once;
-use pi_format::small_shape;
-use pi_small::{SmallFault, read_small};
+use pi_duty::{owes_once, small_class};
 use std::alloc::Global;
 
 /// The longest file that is read.
@@ -62,6 +58,7 @@ pub fn tool<S: Store, O: Sink, E: Sink>(
     ensures faithful_stands { S.faithful store.new ≡ S.faithful store.old }
 {
     owes_once();
+    small_class();
     let outcome = answer(alloc, words, store, out);
     outcome.tell(err);
     outcome.status()
@@ -110,28 +107,17 @@ fn answer_lazy<'a, S: Store, O: Sink>(
     match store.read(alloc, call.file, MOST_BYTES) {
         Ok(file) => match run_file(alloc, call.main, call.steps, file.as_slice(), out) {
             Ok(end) => Outcome::Ran(end),
-            Err(SmallFault::NotSmall) => Outcome::NotBuilt,
-            Err(SmallFault::OutOfMemory) => Outcome::Memory,
+            Err(FileFault::Broken { rule, at }) => Outcome::Broken {
+                file: call.file,
+                rule,
+                at,
+            },
+            Err(FileFault::NotBuilt) => Outcome::NotBuilt,
+            Err(FileFault::OutOfMemory) => Outcome::Memory,
         },
         Err(StoreError::Missing) => Outcome::Missing(call.file),
         Err(StoreError::TooLarge) => Outcome::TooLarge(call.file),
         Err(StoreError::Failed) => Outcome::ReadFault(call.file),
         Err(StoreError::OutOfMemory) => Outcome::Memory,
     }
-}
-
-fn run_file<O: Sink>(
-    alloc: Global,
-    main: &str,
-    steps: u64,
-    file: &[u8],
-    out: &mut O,
-) -> Result<RunEnd, SmallFault>
-    requires { length file.now ≤ 16777216 }
-    ensures gives { (name : List ℕ) → FileGives (LazyOwes (record { file = name; main = main.now; steps = steps }) (Some file.now)) result (O.bytes out.old) (O.bytes out.new) }
-    ensures out_faults { Counts (ends_in_out_fault result) (O.faults out.old) (O.faults out.new) }
-{
-    let prog = read_small(alloc, main.as_bytes(), file)?;
-    small_shape();
-    Ok(run_small(alloc, &prog, steps, out)?)
 }

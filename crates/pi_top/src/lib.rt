@@ -4,6 +4,7 @@
 
 mod answer;
 mod command;
+mod file;
 mod lines;
 mod outcome;
 mod plain;

@@ -1,7 +1,7 @@
 // The lines that tell on the error sink how a command ended. None takes memory, and nothing is written after a fault.
 // docs/commands.md states the lines.
-ghost use Rattle.std.specs.Prelude.{◌++◌};
-ghost use Rattle.pi_duty.specs.Lines.{line, made_line, step_limit_line};
+ghost use Rattle.std.specs.Prelude.{◌++◌, decimal};
+ghost use Rattle.pi_duty.specs.Lines.{dex_line, line, made_line, place_line, rule_line, step_limit_line};
 ghost use Rattle.pi_top.specs.Answer.{Puts, Told};
 
 use itoa::Buffer;
@@ -21,6 +21,42 @@ pub(crate) fn tell_name<E: Sink>(err: &mut E, prefix: &[u8], name: &str)
     ensures { Told (prefix.now ++ line name.now) (E.bytes err.old) (E.bytes err.new) (E.faults err.old) (E.faults err.new) }
 {
     let _ = put_three(err, prefix, name.as_bytes(), b"\n");
+}
+
+/// Tells that a file breaks a rule, at an offset.
+#[tactic(auto, using(crate::proofs::Puts::told_of_puts))]
+pub(crate) fn tell_broken<E: Sink>(err: &mut E, name: &str, rule: u8, at: u32)
+    ensures { Told (dex_line name.now rule at) (E.bytes err.old) (E.bytes err.new) (E.faults err.old) (E.faults err.new) }
+{
+    let _ = put_broken(err, name.as_bytes(), rule, at);
+}
+
+fn put_broken<E: Sink>(err: &mut E, name: &[u8], rule: u8, at: u32) -> Result<(), SinkError>
+    ensures { Puts (dex_line name.now rule at) result (E.bytes err.old) (E.bytes err.new) (E.faults err.old) (E.faults err.new) }
+{
+    put_two(err, b"dex ", name)?;
+    put_rule(err, rule, at)
+}
+
+fn put_rule<E: Sink>(err: &mut E, rule: u8, at: u32) -> Result<(), SinkError>
+    ensures { Puts (rule_line rule at) result (E.bytes err.old) (E.bytes err.new) (E.faults err.old) (E.faults err.new) }
+{
+    put_number(err, b": rule ", rule as u64)?;
+    put_place(err, at)
+}
+
+fn put_place<E: Sink>(err: &mut E, at: u32) -> Result<(), SinkError>
+    ensures { Puts (place_line at) result (E.bytes err.old) (E.bytes err.new) (E.faults err.old) (E.faults err.new) }
+{
+    put_number(err, b" at ", at as u64)?;
+    put(err, b"\n")
+}
+
+fn put_number<E: Sink>(err: &mut E, prefix: &[u8], number: u64) -> Result<(), SinkError>
+    ensures { Puts (prefix.now ++ decimal number) result (E.bytes err.old) (E.bytes err.new) (E.faults err.old) (E.faults err.new) }
+{
+    let mut buffer = Buffer::new();
+    put_two(err, prefix, buffer.format(number).as_bytes())
 }
 
 /// Tells how many steps a run made.

@@ -2,7 +2,7 @@
 ghost use Rattle.std.specs.Prelude.{◌≡◌};
 ghost use Rattle.pi_top.specs.Answer.{Told};
 
-use crate::lines::{tell, tell_limit, tell_made, tell_name};
+use crate::lines::{tell, tell_broken, tell_limit, tell_made, tell_name};
 use crate::plain::run::RunEnd;
 use pi_base::outside::Sink;
 use pi_base::status::Status;
@@ -15,6 +15,7 @@ pub(crate) enum Outcome<'a> {
     ReadFault(&'a str),
     TooLarge(&'a str),
     Memory,
+    Broken { file: &'a str, rule: u8, at: u32 },
     NotBuilt,
     Ran(RunEnd),
 }
@@ -31,6 +32,7 @@ impl Outcome<'_> {
             Outcome::ReadFault(_) => Status::ReadFault,
             Outcome::TooLarge(_) => Status::TooLarge,
             Outcome::Memory => Status::Memory,
+            Outcome::Broken { .. } => Status::Dex,
             Outcome::NotBuilt => Status::NotBuilt,
             Outcome::Ran(RunEnd::Returned { .. }) => Status::Done,
             Outcome::Ran(RunEnd::Limited { .. }) => Status::Steps,
@@ -48,6 +50,7 @@ impl Outcome<'_> {
             Outcome::ReadFault(name) => tell_name(err, b"read fault ", name),
             Outcome::TooLarge(name) => tell_name(err, b"too large ", name),
             Outcome::Memory => tell(err, b"out of memory\n"),
+            Outcome::Broken { file, rule, at } => tell_broken(err, file, *rule, *at),
             Outcome::NotBuilt => tell(err, b"not built\n"),
             Outcome::Ran(RunEnd::Returned { steps }) => tell_made(err, *steps),
             Outcome::Ran(RunEnd::Limited { steps }) => tell_limit(err, *steps),

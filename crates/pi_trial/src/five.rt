@@ -7,13 +7,19 @@
 //
 // The value of x is set by code. All that the format's published rules ask for is there: checksum, signature and map too.
 use crate::part::Part;
+use crate::places::{
+    CLASS_DATA, CLASS_DEFS, CLINIT_CODE, CLINIT_TEXT, DATA, END, FIELD_IDS, FIELD_TEXT, INT_LIST,
+    INT_TEXT, MAIN_CODE, MAIN_TEXT, MAP, METHOD_IDS, OBJECT_TEXT, OUT_TEXT, OWN_TEXT, PRINT_TEXT,
+    PROTO_IDS, STRING_IDS, STRINGS_LIST, STRINGS_TEXT, TYPE_IDS, VOID_INT_TEXT, VOID_REF_TEXT,
+    VOID_TEXT,
+};
 use sha1::Sha1;
 use std::alloc::{AllocError, Global};
 use std::test::Fail;
 
 /// The strings, by their places in the table.
 #[derive(Clone, Copy)]
-pub(crate) enum Text {
+enum Text {
     Clinit,
     Int,
     Own,
@@ -45,7 +51,7 @@ const TEXTS: [&str; 12] = [
 
 /// The types, by their places in the table.
 #[derive(Clone, Copy)]
-pub(crate) enum Type {
+enum Type {
     Int,
     Own,
     Object,
@@ -56,14 +62,14 @@ pub(crate) enum Type {
 
 /// The prototypes: what is taken, where the result is void.
 #[derive(Clone, Copy)]
-pub(crate) enum Proto {
+enum Proto {
     OfNone,
     OfInt,
     OfStrings,
 }
 
 #[derive(Clone, Copy)]
-pub(crate) enum Method {
+enum Method {
     Clinit,
     Main,
     Print,
@@ -79,21 +85,6 @@ const STATIC: u32 = 0x8;
 const CONSTRUCTOR: u32 = 0x10000;
 
 const NO_INDEX: u32 = 0xffff_ffff;
-
-/// Where the tables begin, each behind the one before it, and the data behind them.
-pub(crate) const STRING_IDS: u32 = 112;
-
-pub(crate) const TYPE_IDS: u32 = STRING_IDS + 4 * 12;
-
-pub(crate) const PROTO_IDS: u32 = TYPE_IDS + 4 * 6;
-
-pub(crate) const FIELD_IDS: u32 = PROTO_IDS + 12 * 3;
-
-pub(crate) const METHOD_IDS: u32 = FIELD_IDS + 8;
-
-pub(crate) const CLASS_DEFS: u32 = METHOD_IDS + 8 * 3;
-
-const DATA: u32 = CLASS_DEFS + 32;
 
 /// The instructions of the class, with their registers.
 #[derive(Clone, Copy)]
@@ -117,66 +108,71 @@ impl Insn {
     }
 }
 
-/// How many registers a code has, holds arguments in, and passes on.
+/// How many registers a code has, holds arguments in, and passes on, and how many ranges of it have handlers.
 #[derive(Clone, Copy)]
-struct Registers {
-    all: u16,
-    ins: u16,
-    outs: u16,
+pub(crate) struct CodeHead {
+    pub(crate) registers: u16,
+    pub(crate) ins: u16,
+    pub(crate) outs: u16,
+    pub(crate) ranges: u16,
 }
+
+const CLINIT_HEAD: CodeHead = CodeHead {
+    registers: 1,
+    ins: 0,
+    outs: 0,
+    ranges: 0,
+};
+
+pub(crate) const MAIN_HEAD: CodeHead = CodeHead {
+    registers: 2,
+    ins: 1,
+    outs: 1,
+    ranges: 0,
+};
 
 /// Where the parts of the data stand.
 #[derive(Drop)]
-pub(crate) struct Places {
-    pub(crate) clinit: u32,
-    pub(crate) main: u32,
-    pub(crate) int_list: u32,
-    pub(crate) strings_list: u32,
-    pub(crate) texts: Vec<u32>,
+struct Places {
+    clinit: u32,
+    main: u32,
+    int_list: u32,
+    strings_list: u32,
+    texts: Vec<u32>,
     first_text: u32,
-    pub(crate) class_data: u32,
-    pub(crate) map: u32,
+    class_data: u32,
+    map: u32,
 }
 
-fn put_code(
-    alloc: Global,
-    data: &mut Part,
-    registers: &Registers,
-    insns: &[Insn],
-) -> Result<u32, Fail> {
+/// Writes a code, and answers where it stands.
+pub(crate) fn put_code(data: &mut Part, head: CodeHead, units: &[u16]) -> Result<u32, Fail> {
+    let at = data.align()?;
+    data.put_halves(&[head.registers, head.ins, head.outs, head.ranges])?;
+    data.put_words(&[0, u32::try_from(units.len())?])?;
+    data.put_halves(units)?;
+    Ok(at)
+}
+
+fn put_insns(alloc: Global, data: &mut Part, head: CodeHead, insns: &[Insn]) -> Result<u32, Fail> {
     let mut units = Vec::new(alloc);
     for insn in insns {
         insn.put(&mut units)?;
     }
-    let at = data.align()?;
-    data.put_halves(&[registers.all, registers.ins, registers.outs, 0])?;
-    data.put_words(&[0, u32::try_from(units.len())?])?;
-    data.put_halves(units.as_slice())?;
-    Ok(at)
+    put_code(data, head, units.as_slice())
 }
 
 fn put_clinit(alloc: Global, data: &mut Part) -> Result<u32, Fail> {
-    let registers = Registers {
-        all: 1,
-        ins: 0,
-        outs: 0,
-    };
     let insns = [
         Insn::Const { a: 0, value: 5 },
         Insn::Sput { a: 0 },
         Insn::ReturnVoid,
     ];
-    put_code(alloc, data, &registers, &insns)
+    put_insns(alloc, data, CLINIT_HEAD, &insns)
 }
 
 fn put_main(alloc: Global, data: &mut Part) -> Result<u32, Fail> {
-    let registers = Registers {
-        all: 2,
-        ins: 1,
-        outs: 1,
-    };
     let insns = [Insn::Sget { a: 0 }, Insn::Print { a: 0 }, Insn::ReturnVoid];
-    put_code(alloc, data, &registers, &insns)
+    put_insns(alloc, data, MAIN_HEAD, &insns)
 }
 
 /// Writes a list of the one type.
@@ -312,34 +308,45 @@ fn put_header(part: &mut Part, map: u32, end: u32) -> Result<(), Fail> {
     Ok(())
 }
 
-/// The bytes that are signed: those behind the signature.
-fn signed(alloc: Global) -> Result<Part, Fail> {
-    let mut data = Part::new(alloc, DATA);
-    let places = put_data(alloc, &mut data)?;
-    let mut part = Part::new(alloc, 32);
-    put_header(&mut part, places.map, data.place()?)?;
-    put_ids(&mut part, &places)?;
-    put_class(&mut part, places.class_data)?;
-    part.put(data.bytes())?;
-    Ok(part)
-}
-
 /// Where the parts of the file's data stand.
-pub(crate) fn places_of(alloc: Global) -> Result<Places, Fail> {
+fn places_of(alloc: Global) -> Result<Places, Fail> {
     put_data(alloc, &mut Part::new(alloc, DATA))
 }
 
 /// The file.
 pub(crate) fn make_file(alloc: Global) -> Result<Vec<u8>, Fail> {
-    let signed = signed(alloc)?;
-    let mut summed = Part::new(alloc, 12);
-    summed.put(&Sha1::digest(signed.bytes()))?;
-    summed.put(signed.bytes())?;
+    let mut data = Part::new(alloc, DATA);
+    let places = put_data(alloc, &mut data)?;
     let mut file = Part::new(alloc, 0);
     file.put(b"dex\n035\0")?;
-    file.put_words(&[adler32(summed.bytes())])?;
-    file.put(summed.bytes())?;
-    Ok(Vec::from_slice(alloc, file.bytes())?)
+    file.put(&[0; 24])?;
+    put_header(&mut file, places.map, data.place()?)?;
+    put_ids(&mut file, &places)?;
+    put_class(&mut file, places.class_data)?;
+    file.put(data.bytes())?;
+    sealed(alloc, file.bytes())
+}
+
+/// The file with its signature and its checksum made anew.
+pub(crate) fn sealed(alloc: Global, file: &[u8]) -> Result<Vec<u8>, Fail> {
+    let (front, _) = file.split_at_checked(12).ok_or("a short file")?;
+    let (_, signed) = file.split_at_checked(32).ok_or("a short file")?;
+    let mut whole = Part::new(alloc, 0);
+    whole.put(front)?;
+    whole.put(&Sha1::digest(signed))?;
+    whole.put(signed)?;
+    summed(alloc, whole.bytes())
+}
+
+/// The file with its checksum made anew.
+pub(crate) fn summed(alloc: Global, file: &[u8]) -> Result<Vec<u8>, Fail> {
+    let (magic, _) = file.split_at_checked(8).ok_or("a short file")?;
+    let (_, rest) = file.split_at_checked(12).ok_or("a short file")?;
+    let mut whole = Part::new(alloc, 0);
+    whole.put(magic)?;
+    whole.put_words(&[adler32(rest)])?;
+    whole.put(rest)?;
+    Ok(Vec::from_slice(alloc, whole.bytes())?)
 }
 
 /// The checksum of a file: two sums modulo 65521.
@@ -372,5 +379,36 @@ fn file_has_its_known_bytes(rt: HostRuntime) -> Result<(), Fail> {
     ];
     assert_eq!(rt; file.len(), 612);
     assert_eq!(rt; Sha1::digest(file.as_slice()), want);
+    Ok(())
+}
+
+#[test]
+fn parts_stand_at_their_places(rt: HostRuntime) -> Result<(), Fail> {
+    let places = places_of(rt.alloc())?;
+    let codes_and_lists = [
+        places.clinit,
+        places.main,
+        places.int_list,
+        places.strings_list,
+    ];
+    let want = [CLINIT_CODE, MAIN_CODE, INT_LIST, STRINGS_LIST];
+    assert_eq!(rt; codes_and_lists, want);
+    let want = [
+        CLINIT_TEXT,
+        INT_TEXT,
+        OWN_TEXT,
+        OBJECT_TEXT,
+        OUT_TEXT,
+        VOID_TEXT,
+        VOID_INT_TEXT,
+        VOID_REF_TEXT,
+        STRINGS_TEXT,
+        MAIN_TEXT,
+        PRINT_TEXT,
+        FIELD_TEXT,
+    ];
+    assert_eq!(rt; places.texts.as_slice(), want.as_slice());
+    assert_eq!(rt; [places.class_data, places.map], [CLASS_DATA, MAP]);
+    assert_eq!(rt; make_file(rt.alloc())?.len(), END as usize);
     Ok(())
 }

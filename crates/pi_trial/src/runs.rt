@@ -16,8 +16,13 @@ const LIMITED_RUN: [&str; 4] = ["lazy", "five.dex", "LT;", "10"];
 
 const LIMITED_LINES: &str = "limit steps\nmade 10 steps\n";
 
+/// A call over a file that breaks a rule.
+const BROKEN_RUN: [&str; 4] = ["lazy", "cut.dex", "LT;", "11"];
+
+const BROKEN_LINE: &str = "dex cut.dex: rule 1 at 111\n";
+
 /// What a call answers: the number of its status, and what is on the two sinks.
-pub(crate) type Answer = (u8, &'static str, &'static str);
+pub(crate) type Answer<'a> = (u8, &'a str, &'a str);
 
 const USAGE: Answer = (2, "", "usage\n");
 
@@ -66,8 +71,9 @@ const LIMITS: [(&str, Answer); 20] = [
 ];
 
 /// Names of files and of main classes, and the answers over them.
-const NAMES: [(&str, &str, Answer); 9] = [
+const NAMES: [(&str, &str, Answer); 10] = [
     ("five.dex", "LT;", (0, "5\n", "made 11 steps\n")),
+    ("cut.dex", "LT;", (6, "", BROKEN_LINE)),
     ("other.dex", "LT;", (3, "", "missing other.dex\n")),
     ("@five.dex", "LT;", (3, "", "missing @five.dex\n")),
     ("five-.dex", "LT;", (3, "", "missing five-.dex\n")),
@@ -86,16 +92,19 @@ fn words_of(alloc: Global, texts: &[&str]) -> Result<Vec<String>, AllocError> {
     Ok(words)
 }
 
-/// A store that has the file, and fails the calls with these numbers.
+/// A store that has the file, and its first 111 bytes under another name, and fails the calls with these numbers.
 fn store_of(alloc: Global, fails: &[u64]) -> Result<MemStore, Fail> {
     let mut store = MemStore::new(alloc, fails)?;
-    store.put(alloc, "five.dex", make_file(alloc)?.as_slice())?;
+    let file = make_file(alloc)?;
+    let (front, _) = file.split_at_checked(111).ok_or("a short file")?;
+    store.put(alloc, "cut.dex", front)?;
+    store.put(alloc, "five.dex", file.as_slice())?;
     Ok(store)
 }
 
 /// A sink that has room for all that a call here writes, and fails the calls with these numbers.
 fn sink_of(alloc: Global, fails: &[u64]) -> Result<MemSink, AllocError> {
-    MemSink::new(alloc, 99, fails)
+    MemSink::new(alloc, 199, fails)
 }
 
 /// The two sinks of a call, and how it ended.
@@ -191,26 +200,6 @@ fn store_that_fails_is_told(rt: HostRuntime) -> Result<(), Fail> {
 }
 
 #[test]
-fn file_past_the_limit_is_too_large(rt: HostRuntime) -> Result<(), Fail> {
-    let alloc = rt.alloc();
-    let mut store = store_of(alloc, &[])?;
-    let most = vec![in alloc; 0u8; 16_777_216]?;
-    store.put(alloc, "most.dex", most.as_slice())?;
-    let more = vec![in alloc; 0u8; 16_777_217]?;
-    store.put(alloc, "more.dex", more.as_slice())?;
-    let most = ["lazy", "most.dex", "LT;", "11"];
-    check(&rt, alloc, &most, &mut store, (19, "", "not built\n"))?;
-    let more = ["lazy", "more.dex", "LT;", "11"];
-    check(
-        &rt,
-        alloc,
-        &more,
-        &mut store,
-        (17, "", "too large more.dex\n"),
-    )
-}
-
-#[test]
 fn out_that_fails_holds_a_front(rt: HostRuntime) -> Result<(), Fail> {
     let alloc = rt.alloc();
     let mut store = store_of(alloc, &[])?;
@@ -232,10 +221,25 @@ fn out_that_fails_holds_a_front(rt: HostRuntime) -> Result<(), Fail> {
     Ok(())
 }
 
+/// Looks at the status of a call over a sink for its lines, and at what is on both sinks then.
+fn check_err(
+    rt: &impl Abort,
+    alloc: Global,
+    words: &[&str],
+    err: MemSink,
+    (status, out, lines): (Status, &str, &[u8]),
+) -> Result<(), Fail> {
+    let mut store = store_of(alloc, &[])?;
+    let ended = call(alloc, words, &mut store, sink_of(alloc, &[])?, err)?;
+    assert_eq!(rt; ended.status, status, "at {lines:?}");
+    assert_eq!(rt; ended.out.bytes(), out.as_bytes(), "at {lines:?}");
+    assert_eq!(rt; ended.err.bytes(), lines, "at {lines:?}");
+    Ok(())
+}
+
 #[test]
 fn err_that_fails_a_call_holds_a_front(rt: HostRuntime) -> Result<(), Fail> {
     let alloc = rt.alloc();
-    let mut store = store_of(alloc, &[])?;
     // the call that fails, and what was taken before it: the fifth is never made
     let rows = [
         (1, ""),
@@ -246,10 +250,30 @@ fn err_that_fails_a_call_holds_a_front(rt: HostRuntime) -> Result<(), Fail> {
     ];
     for (fails, lines) in rows {
         let err = sink_of(alloc, &[fails])?;
-        let ended = call(alloc, &LIMITED_RUN, &mut store, sink_of(alloc, &[])?, err)?;
-        assert_eq!(rt; ended.status, Status::Steps, "at {fails}");
-        assert_eq!(rt; ended.out.bytes(), b"5\n".as_slice(), "at {fails}");
-        assert_eq!(rt; ended.err.bytes(), lines.as_bytes(), "at {fails}");
+        let want = (Status::Steps, "5\n", lines.as_bytes());
+        check_err(&rt, alloc, &LIMITED_RUN, err, want)?;
+    }
+    Ok(())
+}
+
+#[test]
+fn err_that_fails_while_a_rule_is_told_holds_a_front(rt: HostRuntime) -> Result<(), Fail> {
+    let alloc = rt.alloc();
+    // the call that fails, and what was taken before it: the eighth is never made
+    let rows = [
+        (1, ""),
+        (2, "dex "),
+        (3, "dex cut.dex"),
+        (4, "dex cut.dex: rule "),
+        (5, "dex cut.dex: rule 1"),
+        (6, "dex cut.dex: rule 1 at "),
+        (7, "dex cut.dex: rule 1 at 111"),
+        (8, BROKEN_LINE),
+    ];
+    for (fails, lines) in rows {
+        let err = sink_of(alloc, &[fails])?;
+        let want = (Status::Dex, "", lines.as_bytes());
+        check_err(&rt, alloc, &BROKEN_RUN, err, want)?;
     }
     Ok(())
 }
@@ -257,14 +281,16 @@ fn err_that_fails_a_call_holds_a_front(rt: HostRuntime) -> Result<(), Fail> {
 #[test]
 fn err_without_room_holds_a_front(rt: HostRuntime) -> Result<(), Fail> {
     let alloc = rt.alloc();
-    let mut store = store_of(alloc, &[])?;
-    let lines = LIMITED_LINES.as_bytes();
-    for room in 0..lines.len() + 1 {
-        let err = MemSink::new(alloc, room, &[])?;
-        let ended = call(alloc, &LIMITED_RUN, &mut store, sink_of(alloc, &[])?, err)?;
-        assert_eq!(rt; ended.status, Status::Steps, "at {room}");
-        assert_eq!(rt; ended.out.bytes(), b"5\n".as_slice(), "at {room}");
-        assert_eq!(rt; ended.err.bytes(), &lines[..room], "at {room}");
+    let rows = [
+        (LIMITED_RUN, Status::Steps, "5\n", LIMITED_LINES),
+        (BROKEN_RUN, Status::Dex, "", BROKEN_LINE),
+    ];
+    for (words, status, out, lines) in rows {
+        let lines = lines.as_bytes();
+        for room in 0..lines.len() + 1 {
+            let err = MemSink::new(alloc, room, &[])?;
+            check_err(&rt, alloc, &words, err, (status, out, &lines[..room]))?;
+        }
     }
     Ok(())
 }
@@ -273,30 +299,31 @@ fn err_without_room_holds_a_front(rt: HostRuntime) -> Result<(), Fail> {
 fn err_that_fails_changes_no_status(rt: HostRuntime) -> Result<(), Fail> {
     let alloc = rt.alloc();
     // the words, the call of the store that fails, the call of `out` that fails, the status and what is on `out`
-    let rows: [([&str; 4], u64, u64, Status, &str); 6] = [
-        (WHOLE_RUN, 0, 0, Status::Done, "5\n"),
-        (WHOLE_RUN, 0, 1, Status::OutFault, ""),
-        (WHOLE_RUN, 1, 0, Status::ReadFault, ""),
+    let rows: [(&[&str], u64, u64, Status, &str); 7] = [
+        (&WHOLE_RUN, 0, 0, Status::Done, "5\n"),
+        (&WHOLE_RUN, 0, 1, Status::OutFault, ""),
+        (&WHOLE_RUN, 1, 0, Status::ReadFault, ""),
+        (&BROKEN_RUN, 0, 0, Status::Dex, ""),
         (
-            ["lazy", "other.dex", "LT;", "11"],
+            &["lazy", "other.dex", "LT;", "11"],
             0,
             0,
             Status::Missing,
             "",
         ),
         (
-            ["lazy", "five.dex", "LU;", "11"],
+            &["lazy", "five.dex", "LU;", "11"],
             0,
             0,
             Status::NotBuilt,
             "",
         ),
-        (["lazy", "five.dex", "LT;", "+1"], 0, 0, Status::Usage, ""),
+        (&["lazy", "five.dex", "LT;", "+1"], 0, 0, Status::Usage, ""),
     ];
     for (words, store_fails, out_fails, status, want) in rows {
         let mut store = store_of(alloc, &[store_fails])?;
         let out = sink_of(alloc, &[out_fails])?;
-        let ended = call(alloc, &words, &mut store, out, sink_of(alloc, &[1])?)?;
+        let ended = call(alloc, words, &mut store, out, sink_of(alloc, &[1])?)?;
         assert_eq!(rt; ended.status, status, "at {words:?}");
         assert_eq!(rt; ended.out.bytes(), want.as_bytes(), "at {words:?}");
         assert_eq!(rt; ended.err.bytes(), b"".as_slice(), "at {words:?}");

@@ -2,7 +2,7 @@
 
 ghost use Rattle.std.specs.Prelude.{◌≡◌, ◌≤◌, ◌<◌, ◌+◌, length, take, IfOk, OnOk, OnErr, IsTrue, is_err, IsSome};
 ghost use Rattle.pi_base.specs.Outside.{Begins, Counts, grown};
-ghost use Rattle.pi_format.specs.Small.{insn_fits};
+ghost use Rattle.pi_duty.specs.Small.{insn_fits};
 ghost use Rattle.pi_machine.specs.Printed.{printed_int};
 ghost use Rattle.pi_model.specs.Search.{own_field};
 ghost use Rattle.pi_top.specs.Row.{effect_of, place_of};

@@ -1,7 +1,7 @@
 use Rattle.std.proofs.Common.{ap, Ok, Err}
 use Rattle.pi_duty.specs.Words.{LazyWords}
 use Rattle.pi_top.specs.declared.command.LazyCall.{LazyCall}
-use Rattle.pi_small.specs.declared.fault.SmallFault.TheVariants.{NotSmall}
+use Rattle.pi_top.specs.declared.file.fault.FileFault.TheVariants.{Broken, NotBuilt}
 use Rattle.pi_top.proofs.Owing.{file_over, missing_gives, large_gives}
 use Rattle.pi_top.proofs.answer.answer_lazy.Goals as goal
 
@@ -13,10 +13,15 @@ returns-in-Ok-run_file-clause-gives g c =
     file_over (g.S.Store.shown c.args.store.now) (g.S.Store.contents c.args.store.now) (asks c.args.call) c.in-Ok.file.items c.as_slice.result.now (Ok c.in-Ok-run_file.end) _ _
     c.as_slice.ensures.value c.in-Ok.ensures.content (c.in-Ok-run_file.ensures.gives c.args.call.file.now)
 
-pub returns-in-Err-NotSmall-clause-gives : goal.returns-in-Err-NotSmall-clause-gives
-returns-in-Err-NotSmall-clause-gives g c =
-    file_over (g.S.Store.shown c.args.store.now) (g.S.Store.contents c.args.store.now) (asks c.args.call) c.in-Ok.file.items c.as_slice.result.now (Err NotSmall) _ _
-    c.as_slice.ensures.value c.in-Ok.ensures.content (rw c.in-Err-NotSmall.field-0-is at (c.in-Err-NotSmall.ensures.gives c.args.call.file.now))
+pub returns-in-Err-NotBuilt-clause-gives : goal.returns-in-Err-NotBuilt-clause-gives
+returns-in-Err-NotBuilt-clause-gives g c =
+    file_over (g.S.Store.shown c.args.store.now) (g.S.Store.contents c.args.store.now) (asks c.args.call) c.in-Ok.file.items c.as_slice.result.now (Err NotBuilt) _ _
+    c.as_slice.ensures.value c.in-Ok.ensures.content (rw c.in-Err-NotBuilt.field-0-is at (c.in-Err-NotBuilt.ensures.gives c.args.call.file.now))
+
+pub returns-in-Err-Broken-clause-gives : goal.returns-in-Err-Broken-clause-gives
+returns-in-Err-Broken-clause-gives g c =
+    file_over (g.S.Store.shown c.args.store.now) (g.S.Store.contents c.args.store.now) (asks c.args.call) c.in-Ok.file.items c.as_slice.result.now (Err (Broken c.in-Err-Broken.rule c.in-Err-Broken.at)) _ _
+    c.as_slice.ensures.value c.in-Ok.ensures.content (rw c.in-Err-Broken.field-0-is at (c.in-Err-Broken.ensures.gives c.args.call.file.now))
 
 pub returns-in-Ok-clause-gives : goal.returns-in-Ok-clause-gives
 returns-in-Ok-clause-gives g c = rw c.in-Err-OutOfMemory-run_file.field-0-is at (c.in-Err-OutOfMemory-run_file.ensures.gives c.args.call.file.now)

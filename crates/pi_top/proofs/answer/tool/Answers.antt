@@ -20,7 +20,7 @@ returns-clause-read_fault_told g c =
 
 pub returns-clause-complete : goal.returns-clause-complete
 returns-clause-complete g c = λ call no_read no_out.
-    complete_of (g.S.Store.shown c.args.store.now) (g.S.Store.contents c.args.store.now) (lazy_words (map string_bytes c.args.words.now.items)) call
+    complete_of c.small_class.ensures (g.S.Store.shown c.args.store.now) (g.S.Store.contents c.args.store.now) (lazy_words (map string_bytes c.args.words.now.items)) call
     (g.O.Sink.bytes c.args.out.now) (g.O.Sink.bytes c.answer-outcome.new.out) _ _ _ _ no_read no_out
     c.status.result c.answer-outcome.result c.status.ensures c.answer-outcome.ensures.gives c.answer-outcome.ensures.read_faults c.answer-outcome.ensures.out_faults
 

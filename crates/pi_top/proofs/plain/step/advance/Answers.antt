@@ -1,7 +1,7 @@
 -- The instruction fits the registers, as all of the code do.
 use Rattle.std.proofs.Common.{◌≡◌, ℕ, List, true, length, sym, subst}
 use Rattle.std.specs.List.{list_all}
-use Rattle.pi_format.specs.Small.{insn_fits, line_fits}
+use Rattle.pi_duty.specs.Small.{insn_fits, line_fits}
 use Rattle.pi_top.specs.Places.{Registers}
 use Rattle.pi_top.proofs.Lists.{list_all-get, is_true}
 use Rattle.pi_top.proofs.plain.step.advance.Goals as goal

@@ -1,0 +1,80 @@
+-- What holds of a small program that files say: its one class fits, each instruction begins where the one before it
+-- ends, the numbers of registers fit their type, no field has a value of its own, and the class is of the second file
+-- and implements nothing.
+use Rattle.std.specs.Prelude.{◌≡◌, ℕ, ◌+◌, ◌<◌, ◌≤◌, ◌==◌, ◌&&◌, ◌++◌, nat_lt, length, slice_index, List, [], ◌∷◌, Option, Some, None, Bool, true, false}
+use Rattle.std.specs.List.{list_all}
+use Rattle.pi_model.specs.declared.numbers.NameNo.{NameNo}
+use Rattle.pi_model.specs.declared.describe.Line.{Line}
+use Rattle.pi_model.specs.declared.describe.Code.{Code}
+use Rattle.pi_model.specs.declared.describe.ClassDesc.{ClassDesc}
+use Rattle.pi_model.specs.declared.describe.MethodDesc.{MethodDesc}
+use Rattle.pi_model.specs.Distinct.{all_distinct}
+use Rattle.pi_model.specs.Program.{Program, with_file}
+use Rattle.pi_model.specs.Texts.{same_text}
+use Rattle.pi_format.specs.Core.{core_names, core_program}
+use Rattle.pi_format.specs.Rules.{broken_rule}
+use Rattle.pi_format.specs.Says.{SaysNext, with_said}
+use Rattle.pi_duty.specs.Small.{class_fits, has_text, has_no_value, is_small}
+
+-- what a file brings beside its classes: names, and the types that it names
+pub record Brought : Type 0 where
+  pub names : List (List ℕ)
+  pub types : List NameNo
+
+-- the program of the first file and one more with this class
+abbrev pub small_chain : Brought → ClassDesc → Program
+small_chain new d = with_file core_program new.names new.types (d ∷ [])
+
+-- each instruction begins where the one before it ends, the first at that address, and none is empty
+abbrev pub laid_from : ℕ → List Line → Bool
+laid_from at [] = true
+laid_from at (l ∷ ls) = (l.at == at) && (nat_lt 0 l.units && laid_from (at + l.units) ls)
+
+-- there is code, whose instructions lie so from address 0 on
+abbrev pub code_laid : Option Code → Bool
+code_laid None = false
+code_laid (Some code) = laid_from 0 code.insns
+
+abbrev pub method_laid : MethodDesc → Bool
+method_laid m = code_laid m.code
+
+-- there is code, whose number of registers is one of 16 bits
+abbrev pub code_small : Option Code → Bool
+code_small None = false
+code_small (Some code) = nat_lt code.regs 65536
+
+abbrev pub method_small : MethodDesc → Bool
+method_small m = code_small m.code
+
+-- the program is that of the first file and one class more, which fits and is named so
+pub record HasSmallClass (main : List ℕ) (p : Program) : Type 0 where
+  pub new : Brought
+  pub class : ClassDesc
+  pub chain : p ≡ small_chain new class
+  pub distinct : all_distinct same_text (core_names ++ new.names) ≡ true
+  pub fits : class_fits class ≡ true
+  pub named : has_text (core_names ++ new.names) class.name main ≡ true
+
+-- the same, with what the bytes of a file add to it
+pub record IsSmall (main : List ℕ) (p : Program) : Type 0 where
+  pub new : Brought
+  pub class : ClassDesc
+  pub chain : p ≡ small_chain new class
+  pub distinct : all_distinct same_text (core_names ++ new.names) ≡ true
+  pub fits : class_fits class ≡ true
+  pub named : has_text (core_names ++ new.names) class.name main ≡ true
+  pub laid : list_all method_laid class.methods ≡ true
+  pub narrow : list_all method_small class.methods ≡ true
+  pub zero_values : list_all has_no_value class.fields ≡ true
+  pub second : class.file.0 ≡ 1
+  pub no_faces : class.faces ≡ []
+
+-- a file that breaks no rule and says a small program behind the first file says one such class
+abbrev pub SmallHasClass : Type 0
+SmallHasClass = (main file : List ℕ) → broken_rule file ≡ None → length file ≤ 16777216 → is_small main (with_said core_program file) ≡ true
+    → HasSmallClass main (with_said core_program file)
+
+-- and where it is a list of bytes, the program has this shape
+abbrev pub SmallHasShape : Type 0
+SmallHasShape = (main file : List ℕ) (p : Program) → SaysNext core_program file p → length file ≤ 16777216 → ((k : ℕ) → slice_index file k < 256)
+    → is_small main p ≡ true → IsSmall main p
