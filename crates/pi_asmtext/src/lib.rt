@@ -1,10 +1,6 @@
 // Reads assembler text into lines of tokens. docs/assembler.md states both.
 #![tactic(auto)]
 
-#[cfg(test)]
-mod code_tests;
-#[cfg(test)]
-mod declaration_tests;
 mod fault;
 mod file;
 mod forms;
@@ -14,10 +10,6 @@ mod operand;
 mod reading;
 mod state;
 mod table;
-#[cfg(test)]
-mod tests;
-#[cfg(test)]
-mod token_tests;
 mod tokens;
 mod words;
 

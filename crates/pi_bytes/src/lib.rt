@@ -5,5 +5,3 @@ pub mod cursor;
 pub mod fault;
 pub mod leb;
 pub mod mutf8;
-#[cfg(test)]
-mod tests;

@@ -2,16 +2,12 @@
 #![tactic(auto)]
 
 mod apart;
-#[cfg(test)]
-mod file;
 mod flags;
 mod judge;
 mod laws;
 mod read;
 mod rows;
 mod table;
-#[cfg(test)]
-mod tests;
 mod values;
 
 pub use flags::AccessFlags;

@@ -12,8 +12,6 @@ mod pieces;
 mod ranges;
 mod reading;
 mod switches;
-#[cfg(test)]
-mod tests;
 mod walking;
 mod walks;
 

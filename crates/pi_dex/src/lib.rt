@@ -6,13 +6,9 @@ mod adding;
 mod asking;
 mod classes;
 mod code_rules;
-#[cfg(test)]
-mod file;
 mod inits;
 mod members;
 mod places;
-#[cfg(test)]
-mod tests;
 mod walk_rules;
 mod words;
 

@@ -4,12 +4,8 @@
 
 mod codes;
 mod data;
-#[cfg(test)]
-mod five;
 mod insns;
 mod numbers;
 mod regs;
-#[cfg(test)]
-mod tests;
 
 pub use codes::code;

@@ -7,8 +7,6 @@ mod distinct;
 mod entries;
 mod facts;
 mod fault;
-#[cfg(test)]
-mod five;
 mod header;
 mod map;
 mod members;
@@ -19,8 +17,6 @@ mod sorted;
 mod strings;
 mod tail;
 mod tails;
-#[cfg(test)]
-mod tests;
 mod texts;
 mod type_lists;
 mod types;

@@ -2,8 +2,6 @@
 // has the formats and the table of opcodes.
 #![tactic(auto)]
 
-#[cfg(test)]
-mod cases;
 mod data;
 mod fault;
 mod laws;
@@ -15,8 +13,6 @@ mod raw;
 mod reading;
 mod rows;
 mod table;
-#[cfg(test)]
-mod tests;
 mod writing;
 
 pub use data::Payload;

@@ -2,7 +2,5 @@
 #![tactic(auto)]
 
 mod literals;
-#[cfg(test)]
-mod tests;
 
 pub use literals::Literals;

@@ -7,17 +7,9 @@ mod job;
 mod laws;
 mod lines;
 mod names;
-#[cfg(test)]
-mod number_tests;
 mod numbers;
-#[cfg(test)]
-mod order_tests;
 mod reading;
 mod selection;
-#[cfg(test)]
-mod selection_tests;
-#[cfg(test)]
-mod tests;
 mod units;
 
 pub use fault::TextFault;

@@ -5,5 +5,3 @@
 pub mod laws;
 pub mod memory;
 mod range;
-#[cfg(test)]
-mod tests;

@@ -10,6 +10,4 @@ pub mod numbers;
 mod order;
 pub mod prog;
 pub mod reason;
-#[cfg(test)]
-mod tests;
 pub mod texts;

@@ -1,6 +1,6 @@
 // The program of a chain of files: its names, types, classes and members by number, and what each file brought.
 
-ghost use Rattle.std.specs.Prelude.{◌≡◌, ◌≢◌, ℕ, ◌<◌, ◌≤◌, length, position, slice_get, slice_index_or, filter, option_map, is_none, None, Some, IfOk, IfSome, IfNone, IsSomeAnd, IsTrue, OnOk, OnErr};
+ghost use Rattle.std.specs.Prelude.{◌≡◌, ◌++◌, ◌∷◌, [], ◌≢◌, ℕ, ◌<◌, ◌≤◌, length, position, slice_get, slice_index_or, filter, option_map, is_none, None, Some, IfOk, IfSome, IfNone, IsSomeAnd, IsTrue, OnOk, OnErr};
 ghost use Rattle.std.specs.List.{All};
 ghost use Rattle.pi_model.specs.Program.{no_files, with_file, field_count, method_count, field_number, method_number, all_fields, all_methods};
 ghost use Rattle.pi_model.specs.Texts.{same_text, name_of};
@@ -260,22 +260,16 @@ impl Prog {
         let (old_names, old_types) = (self.names.len(), self.types.len());
         let (old_classes, old_files) = (self.classes.len(), self.files.len());
         let names_to = (old_names + names.len()) as u32;
-        self.names.append(&mut names)?;
-        if self.types.append(&mut fresh).is_err() {
-            self.names.truncate(old_names);
-            return Err(AllocError);
-        }
-        if self.classes.append(&mut classes).is_err() {
-            self.names.truncate(old_names);
-            self.types.truncate(old_types);
-            return Err(AllocError);
-        }
-        if self.files.push(Part { names_to, types }).is_err() {
-            self.names.truncate(old_names);
-            self.types.truncate(old_types);
-            self.classes.truncate(old_classes);
-            return Err(AllocError);
-        }
+        append_all(
+            &mut self.names,
+            &mut names,
+            &mut self.types,
+            &mut fresh,
+            &mut self.classes,
+            &mut classes,
+            &mut self.files,
+            Part { names_to, types },
+        )?;
         let (types, classes) = (self.types.as_slice(), self.classes.as_slice());
         let extended = self.index.extend(
             self.names.as_slice(),
@@ -293,6 +287,46 @@ impl Prog {
         }
         Ok(())
     }
+}
+
+/// Adds to all four lists, or to none.
+fn append_all(
+    names: &mut Vec<Units>,
+    more_names: &mut Vec<Units>,
+    types: &mut Vec<NameNo>,
+    more_types: &mut Vec<NameNo>,
+    classes: &mut Vec<ClassDesc>,
+    more_classes: &mut Vec<ClassDesc>,
+    files: &mut Vec<Part>,
+    part: Part,
+) -> Result<(), AllocError>
+    ensures names { OnOk result (names.new.items ≡ names.old.items ++ more_names.old.items) }
+    ensures types { OnOk result (types.new.items ≡ types.old.items ++ more_types.old.items) }
+    ensures classes { OnOk result (classes.new.items ≡ classes.old.items ++ more_classes.old.items) }
+    ensures files { OnOk result (files.new.items ≡ files.old.items ++ part ∷ []) }
+    ensures same_names { OnErr result (names.new.items ≡ names.old.items) }
+    ensures same_types { OnErr result (types.new.items ≡ types.old.items) }
+    ensures same_classes { OnErr result (classes.new.items ≡ classes.old.items) }
+    ensures same_files { OnErr result (files.new.items ≡ files.old.items) }
+{
+    let (old_names, old_types, old_classes) = (names.len(), types.len(), classes.len());
+    names.append(more_names)?;
+    if types.append(more_types).is_err() {
+        names.truncate(old_names);
+        return Err(AllocError);
+    }
+    if classes.append(more_classes).is_err() {
+        names.truncate(old_names);
+        types.truncate(old_types);
+        return Err(AllocError);
+    }
+    if files.push(part).is_err() {
+        names.truncate(old_names);
+        types.truncate(old_types);
+        classes.truncate(old_classes);
+        return Err(AllocError);
+    }
+    Ok(())
 }
 
 fn fresh_types(alloc: Global, index: &Index, types: &[NameNo]) -> Result<Vec<NameNo>, AllocError>

@@ -4,8 +4,6 @@
 
 mod bitmap;
 mod moves;
-#[cfg(test)]
-mod tests;
 
 pub use bitmap::Bitmap;
 pub use moves::{PatchFault, patch};

@@ -1,5 +1,0 @@
-// Whole memories against tables of numbers.
-mod acts;
-mod calls;
-mod places;
-mod undone;
