@@ -13,8 +13,7 @@ use Rattle.pi_model.specs.declared.numbers.NameNo.{NameNo}
 use Rattle.pi_model.specs.declared.describe.ClassDesc.{ClassDesc}
 use Rattle.pi_model.specs.Program.{FilePart, Program, with_file, same_name, new_types}
 use Rattle.pi_model.specs.Uses.{name_below, names_below, class_below}
-use Rattle.pi_model.specs.Order.{AreOrders}
-use Rattle.pi_model.specs.Index.{Lookups, IsIndexed, IsKept, IsFirsts, first_set, type_name}
+use Rattle.pi_model.specs.Index.{IsFirsts, first_set, type_name}
 
 position_from_push : {X : Type 0} (p : X → Bool) (i : ℕ) (xs : List X) (x : X) → position_from p i (xs ++ x ∷ []) ≡ option_or (position_from p i xs) (cond (p x) (Some (i + length xs)) None)
 position_from_push p i [] x = let e : i + 0 ≡ i = omega arith in rw e refl
@@ -144,15 +143,6 @@ names_below_as n m xs ys a b h = rw (a, b) h
 pub classes_below_as : (n m : ℕ) (xs ys : List ClassDesc) → n ≡ m → xs ≡ ys → IsTrue (list_all (class_below m) ys) → IsTrue (list_all (class_below n) xs)
 classes_below_as n m xs ys a b h = rw (a, b) h
 
-pub indexed_as : (l : Lookups) (n m : ℕ) (ts us : List NameNo) (ds es : List ClassDesc) → n ≡ m → ts ≡ us → ds ≡ es → IsIndexed l n ts ds → IsIndexed l m us es
-indexed_as l n m ts us ds es a b c h = rw (← a, ← b, ← c) h
-
-pub orders_as : (ns ms orders : List (List ℕ)) → ns ≡ ms → AreOrders ns 0 orders → AreOrders ms 0 orders
-orders_as ns ms orders a h = rw (← a) h
-
-pub kept_back : (ns ms : List (List ℕ)) (ts us : List NameNo) (ds es : List ClassDesc) (fs gs : List FilePart) (l m : Lookups) → ns ≡ ms → ts ≡ us → ds ≡ es → fs ≡ gs → l ≡ m → IsKept record { names = ms; types = us; classes = es; files = gs } m → IsKept record { names = ns; types = ts; classes = ds; files = fs } l
-kept_back ns ms ts us ds es fs gs l m a b c d e k = rw (a, b, c, d, e) k
-
 -- what is cut back to its old length is as it was
 pub cut_back : {X : Type 0} (xs ys zs ws : List X) (n : ℕ) → zs ≡ xs ++ ys → n ≡ length xs → ws ≡ take n zs → ws ≡ xs
 cut_back xs ys zs ws n a b c = c ∙ rw a (take_at xs ys n (sym b))
@@ -182,9 +172,6 @@ empty_is_new slots old k t =
 -- the new types by the slots
 pub new_types_are : (slots : List (Option ℕ)) (old types : List NameNo) → IsFirsts type_name slots old → filter (λ t. is_none (get_or slots t.0 None)) types ≡ new_types old types
 new_types_are slots old types k = sym (filter_agree _ _ (empty_is_new slots old k) types)
-
-pub few_as : (xs ys : List NameNo) (n : ℕ) → xs ≡ ys → length ys < n → length xs < n
-few_as xs ys n e h = rw e h
 
 -- what stands behind the old types is new
 pub types_are : (slots : List (Option ℕ)) (old types ts : List NameNo) → IsFirsts type_name slots old → ts ≡ old ++ filter (λ t. is_none (get_or slots t.0 None)) types → ts ≡ old ++ new_types old types

@@ -1,10 +1,12 @@
 // The program of a chain of files: its names, types, classes and members by number, and what each file brought.
 
-ghost use Rattle.std.specs.Prelude.{◌≡◌, ◌++◌, ◌∷◌, [], ◌≢◌, ℕ, ◌<◌, ◌≤◌, length, position, slice_get, slice_index_or, filter, option_map, is_none, None, Some, IfOk, IfSome, IfNone, IsSomeAnd, IsTrue, OnOk, OnErr};
-ghost use Rattle.std.specs.List.{All};
+ghost use Rattle.std.specs.Prelude.{◌≡◌, ◌++◌, ◌∷◌, [], ◌≢◌, ℕ, ◌<◌, ◌≤◌, ◌^◌, length, sum_by, position, slice_get, slice_index_or, filter, option_map, is_none, None, Some, IfOk, IfSome, IfNone, IsSomeAnd, IsTrue, OnOk, OnErr};
+ghost use Rattle.std.specs.List.{All, list_all};
 ghost use Rattle.pi_model.specs.Program.{no_files, with_file, field_count, method_count, field_number, method_number, all_fields, all_methods};
 ghost use Rattle.pi_model.specs.Texts.{same_text, name_of};
-ghost use Rattle.pi_model.specs.Uses.{class_below};
+ghost use Rattle.pi_model.specs.Index.{IsIndexed};
+ghost use Rattle.pi_model.specs.Order.{AreOrders};
+ghost use Rattle.pi_model.specs.Uses.{class_below, names_below};
 ghost use Rattle.pi_model.specs.Valid.{FitsBehind, IsProgram};
 ghost use Rattle.pi_model.specs.Search.{class_of, type_of, class_at, in_class, method_of, field_of};
 
@@ -257,10 +259,8 @@ impl Prog {
         let mut fresh = fresh_types(alloc, &self.index, types.as_slice())?;
         let mut names = names.into_vec();
         let mut classes = classes.into_vec();
-        let (old_names, old_types) = (self.names.len(), self.types.len());
-        let (old_classes, old_files) = (self.classes.len(), self.files.len());
-        let names_to = (old_names + names.len()) as u32;
-        append_all(
+        let names_to = (self.names.len() + names.len()) as u32;
+        add_all(
             &mut self.names,
             &mut names,
             &mut self.types,
@@ -269,24 +269,71 @@ impl Prog {
             &mut classes,
             &mut self.files,
             Part { names_to, types },
+            &mut self.index,
         )?;
-        let (types, classes) = (self.types.as_slice(), self.classes.as_slice());
-        let extended = self.index.extend(
-            self.names.as_slice(),
-            types,
-            old_types,
-            classes,
-            old_classes,
-        );
-        if extended.is_err() {
-            self.names.truncate(old_names);
-            self.types.truncate(old_types);
-            self.classes.truncate(old_classes);
-            self.files.truncate(old_files);
-            return Err(AllocError);
-        }
         Ok(())
     }
+}
+
+/// Adds to all four lists and to the index, or to none of them.
+fn add_all(
+    names: &mut Vec<Units>,
+    more_names: &mut Vec<Units>,
+    types: &mut Vec<NameNo>,
+    more_types: &mut Vec<NameNo>,
+    classes: &mut Vec<ClassDesc>,
+    more_classes: &mut Vec<ClassDesc>,
+    files: &mut Vec<Part>,
+    part: Part,
+    index: &mut Index,
+) -> Result<(), AllocError>
+    requires old { IsIndexed index.old (length names.old.items) types.old.items classes.old.items }
+    requires ordered { AreOrders names.old.items 0 index.old.orders }
+    requires few_names { length (names.old.items ++ more_names.old.items) < 2 ^ 32 }
+    requires few_types { length (types.old.items ++ more_types.old.items) < 2 ^ 32 }
+    requires few_classes { length (classes.old.items ++ more_classes.old.items) < 2 ^ 32 }
+    requires few_methods { sum_by method_count (classes.old.items ++ more_classes.old.items) < 2 ^ 32 }
+    requires few_fields { sum_by field_count (classes.old.items ++ more_classes.old.items) < 2 ^ 32 }
+    requires types { IsTrue (names_below (length (names.old.items ++ more_names.old.items)) (types.old.items ++ more_types.old.items)) }
+    requires classes { IsTrue (list_all (class_below (length (names.old.items ++ more_names.old.items))) (classes.old.items ++ more_classes.old.items)) }
+    ensures names { OnOk result (names.new.items ≡ names.old.items ++ more_names.old.items) }
+    ensures types { OnOk result (types.new.items ≡ types.old.items ++ more_types.old.items) }
+    ensures classes { OnOk result (classes.new.items ≡ classes.old.items ++ more_classes.old.items) }
+    ensures files { OnOk result (files.new.items ≡ files.old.items ++ part ∷ []) }
+    ensures indexed { OnOk result (IsIndexed index.new (length names.new.items) types.new.items classes.new.items) }
+    ensures ordered { OnOk result (AreOrders names.new.items 0 index.new.orders) }
+    ensures same_names { OnErr result (names.new.items ≡ names.old.items) }
+    ensures same_types { OnErr result (types.new.items ≡ types.old.items) }
+    ensures same_classes { OnErr result (classes.new.items ≡ classes.old.items) }
+    ensures same_files { OnErr result (files.new.items ≡ files.old.items) }
+    ensures same_index { OnErr result (index.new ≡ index.old) }
+{
+    let (old_names, old_types) = (names.len(), types.len());
+    let (old_classes, old_files) = (classes.len(), files.len());
+    append_all(
+        names,
+        more_names,
+        types,
+        more_types,
+        classes,
+        more_classes,
+        files,
+        part,
+    )?;
+    let extended = index.extend(
+        names.as_slice(),
+        types.as_slice(),
+        old_types,
+        classes.as_slice(),
+        old_classes,
+    );
+    if extended.is_err() {
+        names.truncate(old_names);
+        types.truncate(old_types);
+        classes.truncate(old_classes);
+        files.truncate(old_files);
+    }
+    extended
 }
 
 /// Adds to all four lists, or to none.
