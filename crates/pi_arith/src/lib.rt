@@ -4,7 +4,6 @@
 
 mod int;
 mod long;
-mod tests;
 mod unary;
 
 pub use int::int_op;

@@ -12,5 +12,3 @@ pub mod outside;
 pub mod put;
 pub mod status;
 pub mod stream_sink;
-#[cfg(test)]
-mod tests;
