@@ -1,0 +1,161 @@
+// The top call over forms in memory. Beside the rows on files (the files of the store):
+//
+//   case                  no words, no files, nothing fails
+//   words WORD..          the words of the call
+//   store CALL..          the calls of the store that fail
+//   out ROOM CALL..       the room of the output, and its calls that fail
+//   err ROOM CALL..       of the error stream
+//   show NAME..           contents that are told behind the call
+//   run TITLE             makes the call, and tells it under this title
+//
+// A row stands until another of its kind. What is told is the status, the output, the lines on the error stream, and the
+// length and digest of each content that is asked for.
+use crate::files::{Named, follow_file};
+use crate::follow::Subject;
+use crate::spell::{add_bytes, add_digits};
+use crate::words::{numbers_of, words_of};
+use pi_base::mem_sink::MemSink;
+use pi_base::mem_store::MemStore;
+use pi_top::tool;
+use sha1::Sha1;
+use std::alloc::{AllocError, Global};
+use std::io;
+
+/// The room of a sink, and the calls that it fails.
+#[derive(Drop)]
+struct Limits {
+    room: usize,
+    fails: Vec<u64>,
+}
+
+/// The call that rows have described.
+#[derive(Drop)]
+pub(crate) struct Top {
+    words: Vec<String>,
+    files: Vec<Named>,
+    /// The names whose contents are told behind the call.
+    shown: Vec<String>,
+    fails: Vec<u64>,
+    out: Limits,
+    err: Limits,
+}
+
+impl Limits {
+    fn new(alloc: Global) -> Limits {
+        Limits {
+            room: 4096,
+            fails: Vec::new(alloc),
+        }
+    }
+
+    fn sink(&self, alloc: Global) -> Result<MemSink, AllocError> {
+        MemSink::new(alloc, self.room, self.fails.as_slice())
+    }
+}
+
+impl Top {
+    /// No words and no files; nothing fails.
+    pub(crate) fn new(alloc: Global) -> Top {
+        Top {
+            words: Vec::new(alloc),
+            files: Vec::new(alloc),
+            shown: Vec::new(alloc),
+            fails: Vec::new(alloc),
+            out: Limits::new(alloc),
+            err: Limits::new(alloc),
+        }
+    }
+
+    fn store(&self, alloc: Global) -> Result<MemStore, AllocError> {
+        let mut store = MemStore::new(alloc, self.fails.as_slice())?;
+        for file in self.files.iter() {
+            store.put(alloc, file.name.as_str(), file.bytes.as_slice())?;
+        }
+        Ok(store)
+    }
+
+    /// Makes the call, and tells it.
+    fn run(&self, rt: &HostRuntime, title: &str) -> io::Result<()> {
+        let alloc = rt.alloc();
+        let mut store = self.store(alloc)?;
+        let mut out = self.out.sink(alloc)?;
+        let mut err = self.err.sink(alloc)?;
+        let status = call(alloc, &self.words, &mut store, &mut out, &mut err);
+        let mut line = format!(in alloc; "{title}: {status} [")?;
+        add_bytes(&mut line, alloc, out.bytes())?;
+        line.push_str("] [")?;
+        add_bytes(&mut line, alloc, err.bytes())?;
+        line.push_str("]")?;
+        add_contents(&mut line, alloc, &store, &self.shown)?;
+        println!(rt; "{line}")
+    }
+}
+
+impl Subject for Top {
+    fn follow(&mut self, rt: &HostRuntime, verb: &str, rest: &str) -> io::Result<bool> {
+        let alloc = rt.alloc();
+        match verb {
+            "case" => *self = Top::new(alloc),
+            "run" => self.run(rt, rest)?,
+            "words" => return Ok(set(&mut self.words, words_of(alloc, rest)?)),
+            "show" => return Ok(set(&mut self.shown, words_of(alloc, rest)?)),
+            "store" => return Ok(set(&mut self.fails, numbers_of(alloc, rest)?)),
+            "out" => return Ok(set(&mut self.out, limits_of(alloc, rest)?)),
+            "err" => return Ok(set(&mut self.err, limits_of(alloc, rest)?)),
+            _ => return follow_file(rt, &mut self.files, verb, rest),
+        }
+        Ok(true)
+    }
+}
+
+/// Puts what was read in place of what stood there.
+fn set<T: Drop>(place: &mut T, read: Option<T>) -> bool {
+    match read {
+        Some(new) => {
+            *place = new;
+            true
+        }
+        None => false,
+    }
+}
+
+fn limits_of(alloc: Global, text: &str) -> Result<Option<Limits>, AllocError> {
+    let (room, fails) = text.split_once(' ').unwrap_or((text, ""));
+    let Ok(room) = room.parse::<usize>() else {
+        return Ok(None);
+    };
+    match numbers_of(alloc, fails)? {
+        Some(fails) => Ok(Some(Limits { room, fails })),
+        None => Ok(None),
+    }
+}
+
+fn call(
+    alloc: Global,
+    words: &Vec<String>,
+    store: &mut MemStore,
+    out: &mut MemSink,
+    err: &mut MemSink,
+) -> u8 {
+    tool(alloc, words, store, out, err).code()
+}
+
+/// Adds the length and the digest of each of these contents.
+fn add_contents(
+    line: &mut String,
+    alloc: Global,
+    store: &MemStore,
+    names: &[String],
+) -> Result<(), AllocError> {
+    for name in names {
+        match store.get(name.as_str()) {
+            Some(bytes) => {
+                let length = bytes.len();
+                line.push_str(format!(in alloc; " {name} {length} ")?.as_str())?;
+                add_digits(line, alloc, &Sha1::digest(bytes))?;
+            }
+            None => line.push_str(format!(in alloc; " {name} is not there")?.as_str())?,
+        }
+    }
+    Ok(())
+}
