@@ -8,10 +8,10 @@ out from docs/ by hand, or by a reader of the script's own. None comes from the 
 import os
 import sys
 
-from cases import reader, top
+from cases import asmtext, jobs, outside, top
 from cases.rows import Rows
 
-SUBJECTS = [top, reader]
+SUBJECTS = [outside, top, jobs, asmtext]
 CRATE = os.path.join(os.path.dirname(os.path.abspath(__file__)), '..', 'crates', 'pi_cases')
 
 

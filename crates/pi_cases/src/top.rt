@@ -7,26 +7,23 @@
 //   err ROOM CALL..       of the error stream
 //   show NAME..           contents that are told behind the call
 //   run TITLE             makes the call, and tells it under this title
+//   twice TITLE           makes it twice over one store, and tells both
+//   first MAIN            tells the first file of a chain, and whether that file alone is small for this main class
 //
 // A row stands until another of its kind. What is told is the status, the output, the lines on the error stream, and the
 // length and digest of each content that is asked for.
-use crate::files::{Named, follow_file};
-use crate::follow::Subject;
-use crate::spell::{add_bytes, add_digits};
-use crate::words::{numbers_of, words_of};
+use pi_rows::files::{Named, follow_file};
+use crate::first::tell_first_file;
+use pi_rows::follow::{Subject, set};
+use crate::limits::{Limits, limits_of};
+use pi_rows::spell::{add_bytes, add_digits};
+use pi_rows::words::{numbers_of, words_of};
 use pi_base::mem_sink::MemSink;
 use pi_base::mem_store::MemStore;
 use pi_top::tool;
 use sha1::Sha1;
 use std::alloc::{AllocError, Global};
 use std::io;
-
-/// The room of a sink, and the calls that it fails.
-#[derive(Drop)]
-struct Limits {
-    room: usize,
-    fails: Vec<u64>,
-}
 
 /// The call that rows have described.
 #[derive(Drop)]
@@ -38,19 +35,6 @@ pub(crate) struct Top {
     fails: Vec<u64>,
     out: Limits,
     err: Limits,
-}
-
-impl Limits {
-    fn new(alloc: Global) -> Limits {
-        Limits {
-            room: 4096,
-            fails: Vec::new(alloc),
-        }
-    }
-
-    fn sink(&self, alloc: Global) -> Result<MemSink, AllocError> {
-        MemSink::new(alloc, self.room, self.fails.as_slice())
-    }
 }
 
 impl Top {
@@ -76,17 +60,30 @@ impl Top {
 
     /// Makes the call, and tells it.
     fn run(&self, rt: &HostRuntime, title: &str) -> io::Result<()> {
+        let mut store = self.store(rt.alloc())?;
+        self.run_over(rt, &mut store, title)
+    }
+
+    /// Makes the call twice over one store.
+    fn run_twice(&self, rt: &HostRuntime, title: &str) -> io::Result<()> {
         let alloc = rt.alloc();
         let mut store = self.store(alloc)?;
+        self.run_over(rt, &mut store, title)?;
+        let again = format!(in alloc; "{title}, again")?;
+        self.run_over(rt, &mut store, again.as_str())
+    }
+
+    fn run_over(&self, rt: &HostRuntime, store: &mut MemStore, title: &str) -> io::Result<()> {
+        let alloc = rt.alloc();
         let mut out = self.out.sink(alloc)?;
         let mut err = self.err.sink(alloc)?;
-        let status = call(alloc, &self.words, &mut store, &mut out, &mut err);
+        let status = call(alloc, &self.words, store, &mut out, &mut err);
         let mut line = format!(in alloc; "{title}: {status} [")?;
         add_bytes(&mut line, alloc, out.bytes())?;
         line.push_str("] [")?;
         add_bytes(&mut line, alloc, err.bytes())?;
         line.push_str("]")?;
-        add_contents(&mut line, alloc, &store, &self.shown)?;
+        add_contents(&mut line, alloc, store, &self.shown)?;
         println!(rt; "{line}")
     }
 }
@@ -97,6 +94,8 @@ impl Subject for Top {
         match verb {
             "case" => *self = Top::new(alloc),
             "run" => self.run(rt, rest)?,
+            "twice" => self.run_twice(rt, rest)?,
+            "first" => tell_first_file(rt, rest)?,
             "words" => return Ok(set(&mut self.words, words_of(alloc, rest)?)),
             "show" => return Ok(set(&mut self.shown, words_of(alloc, rest)?)),
             "store" => return Ok(set(&mut self.fails, numbers_of(alloc, rest)?)),
@@ -105,28 +104,6 @@ impl Subject for Top {
             _ => return follow_file(rt, &mut self.files, verb, rest),
         }
         Ok(true)
-    }
-}
-
-/// Puts what was read in place of what stood there.
-fn set<T: Drop>(place: &mut T, read: Option<T>) -> bool {
-    match read {
-        Some(new) => {
-            *place = new;
-            true
-        }
-        None => false,
-    }
-}
-
-fn limits_of(alloc: Global, text: &str) -> Result<Option<Limits>, AllocError> {
-    let (room, fails) = text.split_once(' ').unwrap_or((text, ""));
-    let Ok(room) = room.parse::<usize>() else {
-        return Ok(None);
-    };
-    match numbers_of(alloc, fails)? {
-        Some(fails) => Ok(Some(Limits { room, fails })),
-        None => Ok(None),
     }
 }
 

@@ -4,6 +4,7 @@
 //   put PLACE HEX         bytes are written over the last file from a place on; it is longer where they reach past its end
 //   cut LENGTH            the last file's first bytes
 //   zeros COUNT           so many zeros behind the last file
+//   fill COUNT HEX        so many times these bytes behind it
 //   length, sign, sum     the last file says its length; its signature is made anew; its checksum is
 use crate::words::{bytes_of, word_of};
 use sha1::Sha1;
@@ -12,13 +13,13 @@ use std::{fs, io};
 
 /// A content by its name.
 #[derive(Drop)]
-pub(crate) struct Named {
-    pub(crate) name: String,
-    pub(crate) bytes: Vec<u8>,
+pub struct Named {
+    pub name: String,
+    pub bytes: Vec<u8>,
 }
 
 /// Follows a row on files. The answer is whether it was one.
-pub(crate) fn follow_file(
+pub fn follow_file(
     rt: &HostRuntime,
     files: &mut Vec<Named>,
     verb: &str,
@@ -55,6 +56,7 @@ fn alter(alloc: Global, file: &mut Vec<u8>, verb: &str, rest: &str) -> Result<bo
         "put" => put(alloc, file, rest),
         "cut" => Ok(cut(file, rest)),
         "zeros" => add_zeros(file, rest),
+        "fill" => fill(alloc, file, rest),
         "length" => say_length(file),
         "sign" => sign(file),
         "sum" => sum(file),
@@ -91,6 +93,22 @@ fn add_zeros(file: &mut Vec<u8>, rest: &str) -> Result<bool, AllocError> {
     };
     for _ in 0..count {
         file.push(0)?;
+    }
+    Ok(true)
+}
+
+fn fill(alloc: Global, file: &mut Vec<u8>, rest: &str) -> Result<bool, AllocError> {
+    let Some((count, digits)) = rest.split_once(' ') else {
+        return Ok(false);
+    };
+    let Ok(count) = count.parse::<usize>() else {
+        return Ok(false);
+    };
+    let Some(bytes) = bytes_of(alloc, digits)? else {
+        return Ok(false);
+    };
+    for _ in 0..count {
+        file.extend_from_slice(bytes.as_slice())?;
     }
     Ok(true)
 }

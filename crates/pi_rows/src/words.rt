@@ -5,7 +5,7 @@
 use std::alloc::{AllocError, Global};
 
 /// The bytes that a text means; none where it ends within an escape.
-pub(crate) fn text_of(alloc: Global, text: &str) -> Result<Option<Vec<u8>>, AllocError> {
+pub fn text_of(alloc: Global, text: &str) -> Result<Option<Vec<u8>>, AllocError> {
     let mut bytes = Vec::new(alloc);
     let mut rest = text.as_bytes();
     for _ in 0..text.len() {
@@ -47,7 +47,7 @@ fn escaped(letter: u8) -> Option<u8> {
 }
 
 /// A word as it is meant.
-pub(crate) fn word_of(alloc: Global, text: &str) -> Result<Option<String>, AllocError> {
+pub fn word_of(alloc: Global, text: &str) -> Result<Option<String>, AllocError> {
     match text_of(alloc, text)? {
         Some(bytes) => Ok(String::from_utf8(bytes).ok()),
         None => Ok(None),
@@ -55,7 +55,7 @@ pub(crate) fn word_of(alloc: Global, text: &str) -> Result<Option<String>, Alloc
 }
 
 /// Words with a space between each two.
-pub(crate) fn words_of(alloc: Global, text: &str) -> Result<Option<Vec<String>>, AllocError> {
+pub fn words_of(alloc: Global, text: &str) -> Result<Option<Vec<String>>, AllocError> {
     let mut words = Vec::new(alloc);
     for piece in text.split_whitespace() {
         match word_of(alloc, piece)? {
@@ -67,7 +67,7 @@ pub(crate) fn words_of(alloc: Global, text: &str) -> Result<Option<Vec<String>>,
 }
 
 /// Numbers with a space between each two.
-pub(crate) fn numbers_of(alloc: Global, text: &str) -> Result<Option<Vec<u64>>, AllocError> {
+pub fn numbers_of(alloc: Global, text: &str) -> Result<Option<Vec<u64>>, AllocError> {
     let mut numbers = Vec::new(alloc);
     for piece in text.split_whitespace() {
         match piece.parse::<u64>() {
@@ -79,7 +79,7 @@ pub(crate) fn numbers_of(alloc: Global, text: &str) -> Result<Option<Vec<u64>>, 
 }
 
 /// The bytes that pairs of digits say.
-pub(crate) fn bytes_of(alloc: Global, text: &str) -> Result<Option<Vec<u8>>, AllocError> {
+pub fn bytes_of(alloc: Global, text: &str) -> Result<Option<Vec<u8>>, AllocError> {
     let mut bytes = Vec::new(alloc);
     for pair in text.as_bytes().chunks(2) {
         match byte_of(pair) {
@@ -103,4 +103,10 @@ fn digit(byte: u8) -> Option<u8> {
         b'a'..=b'f' => Some(byte.wrapping_sub(b'a').wrapping_add(10)),
         _ => None,
     }
+}
+
+/// The number before the first space of a text, and what stands behind it.
+pub fn number_before(text: &str) -> Option<(u32, &str)> {
+    let (number, rest) = text.split_once(' ')?;
+    Some((number.parse::<u32>().ok()?, rest))
 }

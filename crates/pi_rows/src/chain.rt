@@ -1,0 +1,49 @@
+// The program that files make behind each other.
+ghost use Rattle.std.specs.Prelude.{OnOk};
+ghost use Rattle.pi_format.specs.Says.{HasRoom};
+
+use crate::files::Named;
+use pi_dex::{DexFault, append};
+use pi_model::prog::Prog;
+use std::alloc::Global;
+
+/// The longest file that is read.
+const MOST_BYTES: usize = 16_777_216;
+
+/// The most files of a chain.
+const MOST_FILES: u8 = 8;
+
+/// The program of no file.
+pub fn no_files(alloc: Global) -> Prog
+    ensures { HasRoom result }
+{
+    Prog::new(alloc)
+}
+
+/// Adds a file behind a program. A ninth and a longer one than is read answer want of memory.
+pub fn add(alloc: Global, prog: &mut Prog, file: &Named) -> Result<(), DexFault>
+    requires { HasRoom prog.old }
+    ensures { OnOk result (HasRoom prog.new) }
+{
+    if file.bytes.len() > MOST_BYTES || prog.files() >= MOST_FILES {
+        return Err(DexFault::OutOfMemory);
+    }
+    append(alloc, prog, file.bytes.as_slice())
+}
+
+/// Adds files behind a program, up to the first that is refused.
+pub fn add_all(alloc: Global, prog: &mut Prog, files: &[Named]) -> Result<(), DexFault>
+    requires { HasRoom prog.old }
+{
+    for file in files {
+        add(alloc, prog, file)?;
+    }
+    Ok(())
+}
+
+/// The program of files.
+pub fn program(alloc: Global, files: &[Named]) -> Result<Prog, DexFault> {
+    let mut prog = no_files(alloc);
+    add_all(alloc, &mut prog, files)?;
+    Ok(prog)
+}
