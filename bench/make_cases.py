@@ -8,35 +8,52 @@ out from docs/ by hand, or by a reader of the script's own. None comes from the 
 import os
 import sys
 
-from cases import asmtext, jobs, outside, top
+from cases import (
+    arith, asmtext, code, frames, insns, jobs, lists, literals, lookups, members, memory, numbers, outside, patch, raw, reader, top)
+from cases.five import five
 from cases.rows import Rows
 
-SUBJECTS = [outside, top, jobs, asmtext]
-CRATE = os.path.join(os.path.dirname(os.path.abspath(__file__)), '..', 'crates', 'pi_cases')
+# In the order in which the program runs them.
+SUBJECTS = [
+    outside, top, raw, members, code, reader, jobs, asmtext, arith, insns, numbers, lists, lookups, memory, frames, literals, patch]
+CRATES = os.path.join(os.path.dirname(os.path.abspath(__file__)), '..', 'crates')
 
 
-def main(check):
-    files, wanted = {}, []
+def written():
+    """What every file has, by its name below crates/."""
+    files, wanted = {'pi_tool/data/five.dex': five()}, []
     for subject in SUBJECTS:
         name = subject.__name__.split('.')[-1]
         out = Rows()
         subject.rows(out)
-        files['data/' + name] = '\n'.join(out.rows) + '\n'
-        files.update(('data/' + n, content) for n, content in out.files.items())
         wanted += out.wanted
+        out.data(name, '\n'.join(out.rows) + '\n')
+        for data, content in out.files.items():
+            content = content.encode() if isinstance(content, str) else content
+            path = 'pi_cases/data/' + data
+            assert files.get(path, content) == content, 'two subjects have another ' + data
+            files[path] = content
         print('%-12s %6d rows %6d lines' % (name, len(out.rows), len(out.wanted)))
-    files['stdout'] = '\n'.join(wanted) + '\n'
-    differ = []
-    for name, content in files.items():
-        content = content.encode() if isinstance(content, str) else content
-        path = os.path.join(CRATE, name)
-        if not os.path.exists(path) or open(path, 'rb').read() != content:
-            differ.append(name)
+    files['pi_cases/stdout'] = ('\n'.join(wanted) + '\n').encode()
+    print('%-12s %6s      %6d lines' % ('all', '', len(wanted)))
+    return files
+
+
+def differs(path, content):
+    return not os.path.exists(path) or open(path, 'rb').read() != content
+
+
+def main(check):
+    differing = []
+    for name, content in written().items():
+        path = os.path.join(CRATES, name)
+        if differs(path, content):
+            differing.append(name)
             if not check:
                 os.makedirs(os.path.dirname(path), exist_ok=True)
                 open(path, 'wb').write(content)
-    print('differ:' if check else 'written:', ', '.join(differ) or 'none')
-    return 1 if check and differ else 0
+    print('differ:' if check else 'written:', ', '.join(differing) or 'none')
+    return 1 if check and differing else 0
 
 
 if __name__ == '__main__':

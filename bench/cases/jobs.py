@@ -269,16 +269,16 @@ def large_jobs(out):
 
 
 def selections(out):
-    out.data('ab.dex', File([Class('LA;', 1, OBJECT), Class('LB;', 1, OBJECT)], types=['LD;']).write())
-    out.data('c.dex', File([Class('LC;', 1, OBJECT)]).write())
+    out.data('selected.dex', File([Class('LA;', 1, OBJECT), Class('LB;', 1, OBJECT)], types=['LD;']).write())
+    out.data('selected-behind.dex', File([Class('LC;', 1, OBJECT)]).write())
     out.row('case')
-    out.row('file', 'first', 'ab.dex')
-    out.row('file', 'second', 'c.dex')
+    out.row('file', 'first', 'selected.dex')
+    out.row('file', 'second', 'selected-behind.dex')
     for title, file, text, wanted in SELECTIONS:
         selection(out, 'selection of ' + title, file, text, wanted)
     out.row('case')
-    out.row('file', 'first', 'ab.dex')
-    out.row('file', 'second', 'ab.dex')
+    out.row('file', 'first', 'selected.dex')
+    out.row('file', 'second', 'selected.dex')
     selection(out, 'selection of classes that both files have, for the first', 0, 'LB;\nLA;\n', [1, 0])
     selection(out, 'selection of classes that both files have, for the second', 1, 'LB;\nLA;\n', 1)
 
@@ -286,9 +286,9 @@ def selections(out):
 def large_selections(out):
     """All classes of a large file, the last first; and each but the last a second time."""
     names = ['LC%03d;' % n for n in range(600)]
-    out.data('many.dex', File([Class(name, 1, OBJECT) for name in names]).write())
+    out.data('selected-many.dex', File([Class(name, 1, OBJECT) for name in names]).write())
     out.row('case')
-    out.row('file', 'many', 'many.dex')
+    out.row('file', 'many', 'selected-many.dex')
     backwards = '\n'.join(reversed(names)) + '\n'
     selection(out, 'selection of 600 classes', 0, backwards, list(reversed(range(600))))
     selection(out, 'selection of 600 classes and one of them again', 0, backwards + 'LC001;\n', 601)

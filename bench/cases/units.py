@@ -1,8 +1,9 @@
 """Units of 16 bits, as the program tells them."""
 
-import dexfile
+from dexfile import units_of
 
 
-def told_units(text):
-    """A text by its units: those that are no letter of ASCII, and the backslash, as four digits."""
-    return ''.join(chr(u) if 32 <= u < 127 and u != 92 else '\\u%04x' % u for u in dexfile.units_of(text))
+def told_units(units):
+    """Units, or a text by its units: those that are no letter of ASCII, and the backslash, as four digits."""
+    units = units_of(units) if isinstance(units, str) else units
+    return ''.join(chr(u) if 32 <= u < 127 and u != 92 else '\\u%04x' % u for u in units)

@@ -1,6 +1,6 @@
 // The first file of each chain, which is made by hand.
-use pi_rows::spell::units_as_text;
 use pi_model::numbers::NameNo;
+use pi_rows::spell::units_as_text;
 use pi_small::{core, is_small_program};
 use std::io;
 

@@ -1,6 +1,6 @@
 // A sink in memory, as a row describes it.
-use pi_rows::words::numbers_of;
 use pi_base::mem_sink::MemSink;
+use pi_rows::words::numbers_of;
 use std::alloc::{AllocError, Global};
 
 /// The room of a sink, and the calls that it fails.

@@ -23,13 +23,13 @@
 //   statuses                   each status with its number
 //
 // TIMES may be left out. A content is told as text, a long one by its length and digest.
-use pi_rows::follow::{Subject, set};
 use crate::sinks::{Taker, sink_of};
-use pi_rows::spell::content_as_text;
 use crate::stores::{Contents, remove};
-use pi_rows::words::{numbers_of, text_of, word_of};
 use pi_base::mem_store::MemStore;
 use pi_base::status::Status;
+use pi_rows::follow::{Subject, set};
+use pi_rows::spell::content_as_text;
+use pi_rows::words::{numbers_of, text_of, word_of};
 use std::alloc::{AllocError, Global};
 use std::io;
 

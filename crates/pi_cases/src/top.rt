@@ -12,14 +12,14 @@
 //
 // A row stands until another of its kind. What is told is the status, the output, the lines on the error stream, and the
 // length and digest of each content that is asked for.
-use pi_rows::files::{Named, follow_file};
 use crate::first::tell_first_file;
-use pi_rows::follow::{Subject, set};
 use crate::limits::{Limits, limits_of};
-use pi_rows::spell::{add_bytes, add_digits};
-use pi_rows::words::{numbers_of, words_of};
 use pi_base::mem_sink::MemSink;
 use pi_base::mem_store::MemStore;
+use pi_rows::files::{Named, follow_file};
+use pi_rows::follow::{Subject, set};
+use pi_rows::spell::{add_bytes, add_digits};
+use pi_rows::words::{numbers_of, words_of};
 use pi_top::tool;
 use sha1::Sha1;
 use std::alloc::{AllocError, Global};

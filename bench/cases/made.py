@@ -1,11 +1,13 @@
-"""Writes the tables of crates/pi_dextrial: a file with every instruction and every kind of static value, what program it
-says, and altered copies with the rule and the place that the reader has to name.
+"""The files that the cases are about, and what program they say, worked out from docs/dex-format.md.
 
-Everything is worked out here from the format's tables, apart from the reader.
+Nothing here shares anything with the reader that is tested. A file is described by dexfile.py; codes are a dictionary from
+the names of a class and of its method to the number of units and the instructions, each with its address, its length and
+a function from names to how it prints.
 """
 
-import sys
-from dexfile import Class, Code, Field, File, Method, sign, units_of
+import hashlib
+
+from dexfile import Class, Code, Field, File, Method, sign, uleb
 
 OBJECT, STRING = 'Ljava/lang/Object;', 'Ljava/lang/String;'
 BIN = ['Add', 'Sub', 'Mul', 'Div', 'Rem', 'And', 'Or', 'Xor', 'Shl', 'Shr', 'Ushr']
@@ -202,7 +204,7 @@ def class_text(c, file_no, name, codes):
     for m in c.directs + c.virtuals:
         code = 'None'
         if m.code:
-            units, said = codes[m.name]
+            units, said = codes[c.name, m.name]
             lines = ['Line { at: %d, units: %d, insn: %s }' % (at, n, text(name)) for at, n, text in said]
             tries = []
             for first, count, (typed, last) in m.code.tries:
@@ -239,211 +241,131 @@ def every_file():
     ], virtuals=[Method('n', ('J',), 'I', 0x101), Method('v', (), 'V', 1, short_code(1))], source=0xFFFFFFFE, annotations=0xFFFFFFFD)
     face = Class('LI;', 0x601, OBJECT, virtuals=[Method('g', (), 'V', 0x401)])
     file = File([face, every], strings=['\u20ac', 'unused', '\U0001f600', '\ue000'], extra_items=[(0x2003, b'debug'), (0xF000, b'unknown')])
-    data = file.write()
-    name = lambda s: file.string_no[s]
-    codes = {'all': (length, said)}
-    for m in ('<clinit>', '<init>', 'f', 'r', 'v'):
-        codes[m] = (1, [(0, 1, return_void)])
-    texts = [class_text(c, 0, name, codes) for c in file.classes]
-    return file, data, texts, places, length
+    codes = {('LE;', m): (1, [(0, 1, return_void)]) for m in ('<clinit>', '<init>', 'f', 'r', 'v')}
+    codes['LE;', 'all'] = length, said
+    return file, codes
 
 
-def rows(file, data, places, length):
-    at = file.places
-    item = at['LE;->all']
-    unit = lambda u: item + 16 + 2 * u
-    u16 = lambda n: n.to_bytes(2, 'little')
-    u32 = lambda n: n.to_bytes(4, 'little')
-    data_at, values_at, i_data = at['LE; data'], at['LE; values'], at['LI; data']
-    tries, lists = at['LE;->all tries'], at['LE;->all lists']
-    e_def = at['LE; def']
-    out = []
-
-    def row(why, rule, place, *edits):
-        altered = bytearray(data)
-        for a, b in edits:
-            altered[a:a + len(b)] = bytes(b)
-        out.append((why, [(a, bytes(b)) for a, b in edits] + [(8, sign(altered)[8:32])], rule, place))
-
-    flags = lambda m: at['LE;->' + m + ' flags']
-    row('class data outside of the file', 18, len(data), (e_def + 24, u32(len(data))))
-    row('class data at no place at all', 18, 0xFFFFFFFF, (e_def + 24, u32(0xFFFFFFFF)))
-    row('more rows than there are', 18, data_at, (data_at, [0x7F]))
-    row('a static field that is not static', 18, data_at, (flags('b'), [1]))
-    row('an instance field that is static', 18, data_at, (flags('p'), [8]))
-    row('a field twice in a list', 18, data_at, (at['LE;->c row'], [0]))
-    row('a field in both lists', 18, data_at, (at['LE;->p row'], [file.field_no[('LE;', 'b', 'B')]]))
-    row('a field that is not there', 18, data_at, (at['LE;->q row'], [0x7F]))
-    row('a method that is not there', 18, data_at, (at['LE;->v row'], [0x7F]))
-    row('a method of another class', 18, i_data, (at['LI;->g row'], [file.method_no[('LE;', 'f', ('I', 'J', STRING), 'V')]]))
-    row('a method in both lists', 18, data_at, (at['LE;->n row'], [file.method_no[('LE;', 'all', (), 'V')]]))
-    row('a virtual method that is static', 18, data_at, (flags('v'), [8]))
-    row('a virtual method that is private', 18, data_at, (flags('v'), [2]))
-    row('a direct method that is none', 18, data_at, (flags('f'), [1]))
-    row('an abstract direct method', 18, data_at, (flags('r'), [0x82, 0x08]), (at['LE;->r code'], [0x80, 0x00]))
-    row('code of a native method', 18, data_at, (at['LE;->n code'], [1]))
-    row('no code', 18, data_at, (flags('n'), [0x81, 0x00]))
-    row('an initialiser that is not static', 18, data_at, (flags('<clinit>'), [2]))
-    row('a constructor without its flag', 18, data_at, (flags('<init>'), [0x81, 0x80, 0x00]))
-    row('an interface method that is not abstract', 18, i_data, (at['LI;->g flags'], [0x81, 0x02]))
-    row('an interface with the fields of a class', 18, data_at, (e_def + 4, u32(0x601)))
-    row('values outside of the file', 19, len(data), (e_def + 28, u32(len(data))))
-    row('more values than static fields', 19, values_at, (values_at, [13]))
-    row('values that are cut', 19, len(data) - 3, (e_def + 28, u32(len(data) - 3)))
-    value = lambda f: at['LE;->%s value' % f]
-    for f, head in (('b', 0x20), ('c', 0x43), ('d', 0x84), ('g', 0x97), ('h', 0x98), ('k', 0x3E), ('l', 0x42), ('m', 0x5F)):
-        row('too many bytes for %s' % f, 19, values_at, (value(f), [head]))
-    row('an int for a byte', 19, values_at, (value('b'), [0x04]))
-    row('a byte for a boolean', 19, values_at, (value('m'), [0x00]))
-    row('null for a boolean', 19, values_at, (value('m'), [0x1E]))
-    row('a string that is not there', 19, values_at, (value('g') + 1, [0x7F]))
-    row('a class that is not there', 19, values_at, (value('h') + 1, [0x7F]))
-    row('the class of a primitive', 19, values_at, (value('h') + 1, [file.type_no['B']]))
-    row('an array as a value', 19, values_at, (value('b'), [0x1C]))
-    row('fewer argument words', 20, at['LE;->f'], (at['LE;->f'] + 2, u16(3)))
-    row('more argument words than registers', 20, at['LE;->f'], (at['LE;->f'], u16(3)))
-    row('no unit', 20, at['LE;->v'], (at['LE;->v'] + 12, u32(0)))
-    row('units outside of the file', 20, item, (item + 12, u32(len(data))))
-    row('ranges that overlap', 20, item, (tries + 8, u32(1)))
-    row('a range past the end', 20, item, (tries + 16, u32(length - 2)))
-    row('a list that is none', 20, item, (tries + 6, u16(2)))
-    row('a type that is not there, in a list that no range has', 20, item, (lists + 1 + len_of(lists_of(file)[:2]) + 1, [0x7F]))
-    row('a handler past the end', 20, item, (lists + 3, [0xFF]), (lists + 4, [0x7F]))
-    row('more lists than there are', 20, item, (lists, [0x7F]))
-    row('no instruction', 21, unit(0), (unit(0), [0x3E]))
-    row('a nop with a high byte', 21, unit(0), (unit(0) + 1, [4]))
-    row('six registers', 21, unit(places['filled']), (unit(places['filled']) + 1, [0x60]))
-    row('the last payload is cut', 21, unit(places['sparse data']), (unit(places['sparse data']) + 2, [3]))
-    row('a string out of range', 22, unit(places['string']), (unit(places['string']) + 2, u16(len(file.strings))))
-    row('a jumbo string out of range', 22, unit(places['jumbo']), (unit(places['jumbo']) + 4, u16(1)))
-    row('a type out of range', 22, unit(places['type']), (unit(places['type']) + 2, u16(len(file.types))))
-    row('a field out of range', 22, unit(places['field']), (unit(places['field']) + 2, u16(len(file.fields))))
-    row('a method out of range', 22, unit(places['method']), (unit(places['method']) + 2, u16(len(file.methods))))
-    far = lambda name, d: (unit(places[name]) + 2, u32((places[name + ' data'] - places[name] + d) % W))
-    row('inside a payload', 23, unit(places['fill']), far('fill', 4))
-    row('before the payload', 23, unit(places['packed']), far('packed', -1))
-    row('before the code', 23, unit(places['sparse']), (unit(places['sparse']) + 2, u32(0x80000000)))
-    row('a payload of another kind', 23, unit(places['packed']), (unit(places['packed']) + 2, u32(places['sparse data'] - places['packed'])))
-    row('equal keys', 23, unit(places['sparse']), (unit(places['sparse data']) + 8, u32(0xFFFFFFFF)))
-    row('keys that fall', 23, unit(places['sparse']), (unit(places['sparse data']) + 4, u32(10)))
-    row('a payload at an odd unit', 23, unit(0), odd_payload(unit))
-    row('two broken rules, of which the lower is told', 18, data_at, (flags('b'), [1]), (values_at, [13]))
-    row('two broken places, of which the lower is told', 21, unit(0), (unit(0), [0x3E]), (unit(1), [0x3E]))
-    return out
-
-
-def lists_of(file):
-    every = file.classes[1]
-    code = [m.code for m in every.directs if m.name == 'all'][0]
-    seen = []
-    for h in [h for _, _, h in code.tries] + code.extra_lists:
-        key = (tuple(h[0]), h[1])
-        if key not in seen:
-            seen.append(key)
-    return seen
-
-
-def len_of(lists):
-    total = 0
-    for typed, last in lists:
-        total += 1 + 2 * len(typed) + (last is not None)
-    return total
-
-
-def odd_payload(unit):
-    # a packed switch at unit 0, whose payload of no case stands at unit 3
-    return (unit(0), b'\x2b\x00\x03\x00\x00\x00\x00\x01\x00\x00\x00\x00\x00\x00')
-
-
-def rust_bytes(data):
-    return 'b"%s"' % ''.join('\\x%02x' % b for b in data)
-
-
-def table(data):
-    lines, line = [], '   '
-    for b in data:
-        part = ' %d,' % b
-        if len(line) + len(part) > 100:
-            lines.append(line)
-            line = '   '
-        line += part
-    lines.append(line)
-    return '\n'.join(lines)
-
-
-def five_file():
+def five_file(value=None):
+    """The worked file: its main prints what its initialiser sets; the field may have a value of its own besides."""
     units = [0x5012, 0x0067, ('field', 'LT;', 'x', 'I'), 0x000E]
     main_units = [0x0060, ('field', 'LT;', 'x', 'I'), 0x1071, ('method', 'Lpi/Out;', 'print', ('I',), 'V'), 0, 0x000E]
     code = Code(1, 0, 0, units)
     main_code = Code(2, 1, 1, main_units)
-    five = Class('LT;', 1, OBJECT, statics=[Field('x', 'I', 8)], directs=[
+    five = Class('LT;', 1, OBJECT, statics=[Field('x', 'I', 8, value)], directs=[
         Method('<clinit>', (), 'V', 0x10008, code), Method('main', ('[' + STRING,), 'V', 9, main_code)])
     file = File([five])
     ref, out = field_text(('LT;', 'x', 'I')), method_text(('Lpi/Out;', 'print', ('I',), 'V'))
     lit = lambda t: (lambda name: t)
     codes = {
-        '<clinit>': (4, [(0, 1, lit('Const { a: 0, v: 5 }')), (1, 2, lambda name: 'Sput { kind: Plain, a: 0, f: %s }' % ref(name)), (3, 1, lit('ReturnVoid'))]),
-        'main': (6, [(0, 2, lambda name: 'Sget { kind: Plain, a: 0, f: %s }' % ref(name)),
-                     (2, 3, lambda name: 'Invoke { how: Static, m: %s, regs: %s }' % (out(name), listed(['0']))), (5, 1, lit('ReturnVoid'))]),
+        ('LT;', '<clinit>'): (4, [(0, 1, lit('Const { a: 0, v: 5 }')), (1, 2, lambda name: 'Sput { kind: Plain, a: 0, f: %s }' % ref(name)),
+                                  (3, 1, lit('ReturnVoid'))]),
+        ('LT;', 'main'): (6, [(0, 2, lambda name: 'Sget { kind: Plain, a: 0, f: %s }' % ref(name)),
+                              (2, 3, lambda name: 'Invoke { how: Static, m: %s, regs: %s }' % (out(name), listed(['0']))), (5, 1, lit('ReturnVoid'))]),
     }
-    return file, file.write(), codes
+    return file, codes
 
 
-def numbered(files):
-    """The names of a chain of files, in their order, and a function from texts to numbers."""
-    names = []
-    for file in files:
-        have = set(names)
-        names += [s for s in file.strings if s not in have]
-    return names, lambda s: names.index(s)
+def five_dex():
+    return five_file()[0].write()
 
 
-def put_bytes(out, what, name, data):
-    out.write('/// %s\npub(crate) const %s: [u8; %d] = [\n%s\n];\n\n' % (what, name, len(data), table(data)))
+def value_dex():
+    """The worked file, whose field begins as 5 besides, by a value behind all else."""
+    data = bytearray(five_dex() + bytes([1, 0x04, 5, 0]))
+    for place, number in [(32, len(data)), (104, len(data) - 0x11C), (280, len(data) - 4)]:
+        data[place:place + 4] = word(number)
+    return sign(data)
 
 
-def put_texts(out, what, name, texts):
-    out.write('/// %s\npub(crate) const %s: [&str; %d] = [\n' % (what, name, len(texts)))
-    for t in texts:
-        out.write('    "%s",\n' % t)
-    out.write('];\n\n')
+def every_dex():
+    return every_file()[0].write()
 
 
-def main(folder):
-    file, data, texts, places, length = every_file()
-    units, _, said, _ = every_instruction()
-    find = lambda start: [at for at, n, text in said if text(lambda s: 0).startswith(start)][0]
-    places.update({'filled': find('Filled'), 'string': find('ConstString'), 'jumbo': [a for a, n, t in said if t(lambda s: 0).startswith('ConstString')][1],
-                   'type': find('ConstClass'), 'field': find('Iget'), 'method': find('Invoke')})
-    codes = {'all': (length, said)}
-    for m in ('<clinit>', '<init>', 'f', 'r', 'v'):
-        codes[m] = (1, [(0, 1, lambda name: 'ReturnVoid')])
-    five, five_data, five_codes = five_file()
-    _, alone = numbered([five])
-    chain, both = numbered([five, file])
-    with open(folder + '/five.rt', 'w') as out:
-        out.write('// The worked file, and what its class is. Written by bench/reader_tests.py.\n\n')
-        put_bytes(out, 'The file.', 'FIVE', five_data)
-        put_texts(out, 'Its class, as it prints.', 'FIVE_CLASSES', [class_text(c, 0, alone, five_codes) for c in five.classes])
-    with open(folder + '/every.rt', 'w') as out:
-        out.write('// A file with every instruction and every kind of static value, and what its classes are. Written by\n// bench/reader_tests.py.\n\n')
-        put_bytes(out, 'The file.', 'EVERY', data)
-        out.write('/// The names of the worked file and this one behind it.\npub(crate) const NAMES: [&[u16]; %d] = [\n' % len(chain))
-        for s in chain:
-            out.write('    &[%s],\n' % ', '.join(map(str, units_of(s))))
-        out.write('];\n\n/// The names of its types there.\npub(crate) const TYPES: [u32; %d] = [%s];\n\n' % (len(file.types), ', '.join(str(both(t)) for t in file.types)))
-        put_texts(out, 'Its classes, as they print where it stands alone.', 'CLASSES', texts)
-        put_texts(out, 'Its classes, as they print behind the worked file.', 'BEHIND', [class_text(c, 1, both, codes) for c in file.classes])
-    with open(folder + '/rows.rt', 'w') as out:
-        out.write('// Altered copies of the file, with the rule that is told and its place. Written by bench/reader_tests.py.\n\n')
-        out.write('/// Bytes that are written over those at a place.\npub(crate) type Edit = (usize, &\'static [u8]);\n\n')
-        all_rows = rows(file, data, places, length)
-        out.write('/// Rows: what is written over, the rule that is told, and its place.\npub(crate) const ROWS: [(&[Edit], u8, u32); %d] = [\n' % len(all_rows))
-        for why, edits, rule, place in all_rows:
-            out.write('    // %s\n    (&[%s], %d, %d),\n' % (why, ', '.join('(%d, %s)' % (a, rust_bytes(b)) for a, b in edits), rule, place))
-        out.write('];\n')
-    print(len(data), 'bytes', len(said), 'instructions', len(texts[1]), 'characters', len(all_rows), 'rows')
+def long_code(count):
+    """The worked file, whose initialiser is so many units behind all else: nothing, and a return in the last one."""
+    file, codes = five_file()
+    file.classes[0].directs[0].code = Code(1, 0, 0, [0] * (count - 1) + [0x0E])
+    nothing, void = (lambda name: 'Nop'), (lambda name: 'ReturnVoid')
+    said = [(at, 1, nothing) for at in range(count - 1)] + [(count - 1, 1, void)]
+    return file, {**codes, ('LT;', '<clinit>'): (count, said)}
 
 
-if __name__ == '__main__':
-    main(sys.argv[1])
+def many_file():
+    """A file with many members and classes: one class has 600 fields with values and 400 methods, one of which has 200 ranges
+    with handlers, and each of 150 others has a field and a method."""
+    void = lambda name: 'ReturnVoid'
+    short = lambda: Code(1, 0, 0, [0x000E])
+    fields = [Field('f%03d' % k, 'I', 9, bytes([0x24, k % 256, k // 256])) for k in range(600)]
+    methods = [Method('m%03d' % k, (), 'V', 9, short()) for k in range(400)]
+    ranges = [(k, 1, (((STRING, k),), k + 1)) for k in range(200)]
+    methods[200].code = Code(1, 0, 0, [0] * 300 + [0x000E], ranges)
+    classes = [Class('LM;', 1, OBJECT, statics=fields, directs=methods)]
+    for k in range(150):
+        statics = [Field('g', 'Z', 9, bytes([0x3F]))]
+        classes.append(Class('LN%03d;' % k, 1, OBJECT, statics=statics, directs=[Method('n', (), 'V', 9, short())]))
+    codes = {(c.name, m.name): (1, [(0, 1, void)]) for c in classes for m in c.directs}
+    codes['LM;', 'm200'] = 301, [(at, 1, lambda name: 'Nop') for at in range(300)] + [(300, 1, void)]
+    return File(classes), codes
+
+
+def overlapped_dex():
+    """A file of 20,072 bytes with 1,922 strings, which have four million units, since their texts overlap.
+
+    In each of two runs of bytes a text begins at each third offset or so, with its length as some of the units of the others.
+    The strings are in the order of their first two units, and each text of the first run stands before that of the second,
+    from which it differs in its last unit alone.
+    """
+    data = bytearray(five_dex()[:112])
+    data[64:112] = bytes(48)
+    for place, number in [(32, 20072), (52, 20044), (56, 1922)]:
+        data[place:place + 4] = word(number)
+    for first in range(31):
+        for second in range(1, 32):
+            at = 3 * ((4079 - (2 * first + 3 + 128 * second)) // 2) + 1
+            data += word(7800 + at) + word(13922 + at)
+    for last in b'ab':
+        for k in range(2040):
+            behind = 4079 - 2 * k
+            data += bytes([0xC2, 128 + behind % 64, behind // 128 | (behind < 128)])
+        data += bytes([last, 0])
+    for number in [2, 0, 1, 0, 1, 1922, 112]:
+        data += word(number)
+    return sign(data)
+
+
+def word(number):
+    return number.to_bytes(4, 'little')
+
+
+def half(number):
+    return number.to_bytes(2, 'little')
+
+
+def at(data, place, size=4):
+    """The number of so many bytes at a place."""
+    return int.from_bytes(data[place:place + size], 'little')
+
+
+def altered(data, edits):
+    """A copy with bytes written over those at places."""
+    data = bytearray(data)
+    for place, content in edits:
+        data[place:place + len(content)] = content
+    return bytes(data)
+
+
+def alter(out, source, edits, *sums):
+    """Rows that make a copy of a file of data/ with bytes written over those at places, and then say its length or sums."""
+    out.row('case')
+    out.row('file', 'a.dex', source)
+    for place, content in edits:
+        out.row('put', place, bytes(content).hex())
+    for verb in sums:
+        out.row(verb)
+
+
+def digest(lines):
+    """The one line that stands for many."""
+    lines = list(lines)
+    return '%d lines %s' % (len(lines), hashlib.sha1(''.join(line + '\n' for line in lines).encode()).hexdigest())

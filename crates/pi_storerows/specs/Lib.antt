@@ -1,0 +1,2 @@
+-- What the stores that rows act on keep.
+pub mod Counted
