@@ -9,6 +9,8 @@ import hashlib
 
 from dexfile import Class, Code, Field, File, Method, sign, uleb
 
+from .five import five
+
 OBJECT, STRING = 'Ljava/lang/Object;', 'Ljava/lang/String;'
 BIN = ['Add', 'Sub', 'Mul', 'Div', 'Rem', 'And', 'Or', 'Xor', 'Shl', 'Shr', 'Ushr']
 LIT = ['Add', 'Rsub', 'Mul', 'Div', 'Rem', 'And', 'Or', 'Xor', 'Shl', 'Shr', 'Ushr']
@@ -267,7 +269,9 @@ def five_file(value=None):
 
 
 def five_dex():
-    return five_file()[0].write()
+    content = five_file()[0].write()
+    assert content == five()
+    return content
 
 
 def value_dex():
