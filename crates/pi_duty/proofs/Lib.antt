@@ -1,3 +1,4 @@
+pub mod NoWrites
 mod Once
 mod Five
 mod Shapes

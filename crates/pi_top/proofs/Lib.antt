@@ -7,6 +7,7 @@ pub mod MachineRows
 pub mod MachineRuns
 pub mod MachineStart
 pub mod MachineSteps
+pub mod Obeying
 pub mod Owing
 pub mod PlainLaws
 pub mod Puts

@@ -1,8 +1,11 @@
 pub mod Answer
+pub mod Calls
+pub mod Exits
 pub mod Faults
 pub mod Outcome
 pub mod Places
 pub mod Plain
 pub mod Roles
 pub mod Row
+pub mod Run
 pub mod Seen

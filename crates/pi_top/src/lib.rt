@@ -3,10 +3,13 @@
 #![tactic(auto)]
 
 mod answer;
-mod command;
+mod commands;
 mod file;
 mod lines;
+mod operands;
 mod outcome;
 mod plain;
+mod program;
 
 pub use answer::tool;
+pub use program::{WordsFault, run_program, words_behind_name};
