@@ -1,6 +1,5 @@
 pub mod Answer
 pub mod Calls
-pub mod Exits
 pub mod Faults
 pub mod Outcome
 pub mod Places

@@ -9,7 +9,5 @@ mod lines;
 mod operands;
 mod outcome;
 mod plain;
-mod program;
 
 pub use answer::tool;
-pub use program::{WordsFault, run_program, words_behind_name};

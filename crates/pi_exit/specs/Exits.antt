@@ -6,8 +6,8 @@ use Rattle.pi_base.specs.Status.{code_of}
 use Rattle.pi_base.specs.Views.{StoreView, SinkView}
 use Rattle.pi_base.specs.Outside.{Told}
 use Rattle.pi_duty.specs.Lines.{memory_line, usage_line}
-use Rattle.pi_top.specs.declared.program.WordsFault.{WordsFault}
-use Rattle.pi_top.specs.declared.program.WordsFault.TheVariants.{OutOfMemory, NoText}
+use Rattle.pi_exit.specs.declared.WordsFault.{WordsFault}
+use Rattle.pi_exit.specs.declared.WordsFault.TheVariants.{OutOfMemory, NoText}
 use Rattle.pi_top.specs.Answer.{Obeys}
 
 -- status and line where there are no words

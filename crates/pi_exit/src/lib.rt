@@ -1,14 +1,16 @@
 // The program around the top call: the words behind its name, and the code with which it ends. docs/commands.md states both.
+#![tactic(auto)]
+
 ghost use Rattle.std.specs.Prelude.{◌≡◌};
 ghost use Rattle.std.specs.Process.{exit_status};
 ghost use Rattle.pi_base.specs.Outside.{Told};
 ghost use Rattle.pi_base.specs.Status.{code_of};
-ghost use Rattle.pi_top.specs.Exits.{Exits, fault_line, fault_status};
+ghost use Rattle.pi_exit.specs.Exits.{Exits, fault_line, fault_status};
 
-use crate::answer::tool;
-use crate::lines::tell;
 use pi_base::outside::{Sink, Store};
+use pi_base::put::put_all;
 use pi_base::status::Status;
+use pi_top::tool;
 use std::alloc::Global;
 use std::env;
 use std::io::{Error, ErrorKind};
@@ -35,14 +37,22 @@ impl WordsFault {
         }
     }
 
-    /// Tells the line of that status.
+    /// The line that tells it.
+    fn line(&self) -> &'static [u8]
+        ensures { result.now ≡ fault_line self.now }
+    {
+        match self {
+            WordsFault::OutOfMemory => b"out of memory\n",
+            WordsFault::NoText => b"usage\n",
+        }
+    }
+
+    /// Tells that line. A fault of the sink changes no status.
+    #[tactic(auto, using(pi_base::proofs::Taken::told_of_puts))]
     fn tell<E: Sink>(&self, err: &mut E)
         ensures { Told (fault_line self.now) (E.view err.old) (E.view err.new) }
     {
-        match self {
-            WordsFault::OutOfMemory => tell(err, b"out of memory\n"),
-            WordsFault::NoText => tell(err, b"usage\n"),
-        }
+        let _ = put_all(err, self.line());
     }
 }
 
