@@ -1,2 +1,3 @@
 mod Examples
 pub mod Taken
+pub mod Writing

@@ -8,7 +8,7 @@ use Rattle.pi_base.specs.Outside.{Told}
 use Rattle.pi_duty.specs.Lines.{memory_line, usage_line}
 use Rattle.pi_exit.specs.declared.WordsFault.{WordsFault}
 use Rattle.pi_exit.specs.declared.WordsFault.TheVariants.{OutOfMemory, NoText}
-use Rattle.pi_top.specs.Answer.{Obeys}
+use Rattle.pi_top.specs.Obeys.{Obeys}
 
 -- status and line where there are no words
 abbrev pub fault_status : WordsFault → Status

@@ -22,7 +22,9 @@ use Rattle.pi_top.specs.declared.plain.run.RunEnd.TheVariants.{Returned, Limited
 use Rattle.pi_top.specs.declared.outcome.Outcome.{Outcome}
 use Rattle.pi_top.specs.declared.outcome.Outcome.TheVariants as outcome
 use Rattle.pi_top.specs.declared.outcome.Outcome.TheVariants.{Usage, Missing, ReadFault, TooLarge, Memory, NotBuilt, Ran}
-use Rattle.pi_top.specs.Answer.{RunEnds, OwesOver, IsComplete, IsSmallCall, EndsAsRun, Raised, is_owed, is_status}
+use Rattle.pi_top.specs.Statuses.{is_owed, is_status}
+use Rattle.pi_top.specs.Answer.{OwesOver, Raised}
+use Rattle.pi_top.specs.SmallCall.{RunEnds, IsComplete, IsSmallCall, EndsAsRun}
 use Rattle.pi_top.specs.Outcome.{OutcomeGives, status_of}
 use Rattle.pi_top.proofs.Lookups.{ClassIs, class_is}
 use Rattle.pi_top.proofs.Roles.{RolesOf, roles_of}

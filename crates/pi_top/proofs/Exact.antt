@@ -9,7 +9,9 @@ use Rattle.pi_duty.specs.Duty.{Owed, WordsOwe, Owes, OwesOnce}
 use Rattle.pi_top.specs.declared.plain.run.RunEnd.TheVariants.{Returned, Limited, OutFault}
 use Rattle.pi_top.specs.declared.outcome.Outcome.{Outcome}
 use Rattle.pi_top.specs.declared.outcome.Outcome.TheVariants.{Usage, Missing, ReadFault, TooLarge, Memory, Broken, NotBuilt, Ran}
-use Rattle.pi_top.specs.Answer.{OwesOver, IsExact, is_as_owed, may_stop, ends_run, is_status}
+use Rattle.pi_top.specs.Statuses.{ends_run, is_status}
+use Rattle.pi_top.specs.Answer.{OwesOver}
+use Rattle.pi_top.specs.Obeys.{IsExact, is_as_owed, may_stop}
 use Rattle.pi_top.specs.Outcome.{Gives, OutcomeGives, status_of}
 
 or_right : (a b : Bool) → b ≡ true → IsTrue (a || b)

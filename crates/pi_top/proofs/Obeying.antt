@@ -12,7 +12,9 @@ use Rattle.pi_duty.specs.Shape.{SmallHasClass}
 use Rattle.pi_top.specs.declared.plain.run.RunEnd.TheVariants.{Returned, Limited, OutFault}
 use Rattle.pi_top.specs.declared.outcome.Outcome.{Outcome}
 use Rattle.pi_top.specs.declared.outcome.Outcome.TheVariants.{Usage, Missing, ReadFault, TooLarge, Memory, Broken, NotBuilt, Ran}
-use Rattle.pi_top.specs.Answer.{Answered, Cuts, Obeys, OwesOver, Raised, TellsReadFault, Wrote, is_owed, may_come}
+use Rattle.pi_top.specs.Statuses.{is_owed, may_come}
+use Rattle.pi_top.specs.Answer.{Answered, Cuts, OwesOver, Raised, Wrote}
+use Rattle.pi_top.specs.Obeys.{Obeys, TellsReadFault}
 use Rattle.pi_top.specs.Outcome.{Gives, OutcomeGives, status_of, lines_of}
 use Rattle.pi_top.proofs.Complete.{complete_of}
 use Rattle.pi_top.proofs.Exact.{exact_of}

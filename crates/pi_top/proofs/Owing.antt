@@ -8,6 +8,7 @@ use Rattle.pi_base.specs.Views.{StoreView, SinkView}
 use Rattle.pi_base.specs.Outside.{Keeps}
 use Rattle.pi_base.specs.Writes.{Write, MakesAll}
 use Rattle.pi_base.proofs.Taken.{took_nothing}
+use Rattle.pi_base.proofs.Writing.{stands}
 use Rattle.pi_model.specs.Program.{Program}
 use Rattle.pi_format.specs.Core.{core_program}
 use Rattle.pi_format.specs.Rules as rules
@@ -29,7 +30,9 @@ use Rattle.pi_top.specs.declared.plain.run.RunEnd.{RunEnd}
 use Rattle.pi_top.specs.declared.plain.run.RunEnd.TheVariants.{Returned, Limited, OutFault}
 use Rattle.pi_top.specs.declared.file.fault.FileFault.{FileFault}
 use Rattle.pi_top.specs.declared.file.fault.FileFault.TheVariants as fault
-use Rattle.pi_top.specs.Answer.{RunEnds, OwesOver, ends_run}
+use Rattle.pi_top.specs.Statuses.{ends_run}
+use Rattle.pi_top.specs.Answer.{OwesOver}
+use Rattle.pi_top.specs.SmallCall.{RunEnds}
 use Rattle.pi_top.specs.Run.{AnswersRun}
 use Rattle.pi_top.specs.Outcome.{Gives, EndGives, FileGives, NoWrite}
 
@@ -242,9 +245,6 @@ module _ (store store_now : StoreView) (keeps : Keeps store store_now) where
   pub large_gives : (l : LazyWords) (before : SinkView) → (IsTrue store.shown → IsSomeAnd (store.contents l.file) (λ file. most_bytes < length file))
       → Gives (OwesOver store (Some (Lazy l))) statuses.TooLarge Made (too_large_line l.file) before before
   large_gives l before h = refused_made _ _ _ before (large_over store l h)
-
-stands : (store : StoreView) → Keeps store store
-stands store = record { shown = refl; faithful = refl; contents = refl }
 
 pub usage_gives : (store : StoreView) (command : Option Command) (before : SinkView) → None ≡ command → Gives (OwesOver store command) statuses.Usage (λ writes. MakesAll writes store store) usage_line before before
 usage_gives store None before is = refused_made store store (stands store) _ _ _ before (record { contents = store.contents; as_shown = λ _. refl; owes = refl })

@@ -2,7 +2,8 @@
 ghost use Rattle.std.specs.Prelude.{◌≡◌, ◌⊎◌, ◌↔◌, map, string_bytes, None, IsTrue};
 ghost use Rattle.pi_base.specs.Outside.{Keeps};
 ghost use Rattle.pi_duty.specs.Command.{command_of, writes_nothing};
-ghost use Rattle.pi_top.specs.Answer.{Obeys, OwesOver, Raised, Wrote};
+ghost use Rattle.pi_top.specs.Answer.{OwesOver, Raised, Wrote};
+ghost use Rattle.pi_top.specs.Obeys.{Obeys};
 ghost use Rattle.pi_top.specs.Outcome.{OutcomeGives, status_of};
 
 use crate::commands::lazy::run_lazy;

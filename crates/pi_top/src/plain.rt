@@ -5,7 +5,7 @@ ghost use Rattle.std.specs.Prelude.{◌≡◌, ℕ, List, IfOk, OnErr};
 ghost use Rattle.pi_base.specs.Outside.{Counts};
 ghost use Rattle.pi_duty.specs.Shape.{IsSmall};
 ghost use Rattle.pi_machine.specs.Ends.{Finish};
-ghost use Rattle.pi_top.specs.Answer.{RunEnds};
+ghost use Rattle.pi_top.specs.SmallCall.{RunEnds};
 ghost use Rattle.pi_top.specs.Run.{AnswersRun, ends_in_out_fault};
 
 mod place;

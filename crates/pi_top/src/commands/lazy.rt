@@ -3,7 +3,8 @@ ghost use Rattle.std.specs.Prelude.{◌≡◌, [], ◌∷◌, map, option_map, c
 ghost use Rattle.pi_base.specs.Outside.{Keeps};
 ghost use Rattle.pi_duty.specs.Command.{Lazy};
 ghost use Rattle.pi_duty.specs.Words.{lazy_words};
-ghost use Rattle.pi_top.specs.Answer.{Raised, is_status};
+ghost use Rattle.pi_top.specs.Statuses.{is_status};
+ghost use Rattle.pi_top.specs.Answer.{Raised};
 ghost use Rattle.pi_top.specs.Calls.{lazy_of};
 ghost use Rattle.pi_top.specs.Outcome.{OutcomeGives, status_of};
 

@@ -1,0 +1,22 @@
+-- One write is a list of writes.
+use Rattle.std.proofs.Common.{◌≡◌, [], ◌∷◌, Some, IsTrue, refl, ap, sym, ◌∙◌, subst, inl}
+use Rattle.pi_base.specs.Views.{Contents, StoreView}
+use Rattle.pi_base.specs.Outside.{Holds, Keeps, KeepsOthers}
+use Rattle.pi_base.specs.Writes.{Write, MakesAll, MakesFront}
+
+pub stands : (store : StoreView) → Keeps store store
+stands store = record { shown = refl; faithful = refl; contents = refl }
+
+-- a write that a store took, and one that it refused
+pub makes_one : (w : Write) (before now : StoreView) → KeepsOthers w.name before now → Holds now w.name w.bytes → MakesAll (w ∷ []) before now
+makes_one w before now keeps holds = (now, ((keeps, holds), stands now))
+
+pub refuses_one : (w : Write) (before now : StoreView) → KeepsOthers w.name before now → MakesFront (w ∷ []) before now
+refuses_one w before now keeps = inl keeps
+
+-- a store that tells its contents and is faithful has what was written
+pub one_made : (w : Write) (before now : StoreView) → MakesAll (w ∷ []) before now → IsTrue before.shown → IsTrue before.faithful → now.contents w.name ≡ Some w.bytes
+one_made w before now made shown faithful =
+    let kept : KeepsOthers w.name before made.0 = made.1.0.0 in
+    ap (λ (c : Contents). c w.name) made.1.1.contents
+    ∙ made.1.0.1 (subst IsTrue (sym kept.shown) shown) (subst IsTrue (sym kept.faithful) faithful)
