@@ -1,5 +1,5 @@
 -- Writes into a store, one after another.
-use Rattle.std.specs.Prelude.{ℕ, List, [], ◌∷◌, ◌⊎◌}
+use Rattle.std.specs.Prelude.{◌≡◌, ℕ, List, [], ◌∷◌, ◌⊎◌}
 use Rattle.pi_base.specs.Views.{StoreView}
 use Rattle.pi_base.specs.Outside.{Holds, Keeps, KeepsOthers}
 
@@ -21,3 +21,9 @@ MakesAll (w ∷ ws) before now = (next : StoreView) × (Makes w before next × M
 abbrev pub MakesFront : List Write → StoreView → StoreView → Type 0
 MakesFront [] before now = Keeps before now
 MakesFront (w ∷ ws) before now = KeepsOthers w.name before now ⊎ ((next : StoreView) × (Makes w before next × MakesFront ws next now))
+
+-- the writes before that one were made, in their order, and it was refused: the content of its name is open
+abbrev pub StopsAt : Write → List Write → StoreView → StoreView → Type 0
+StopsAt refused [] before now = ⊥
+StopsAt refused (w ∷ ws) before now =
+    ((w ≡ refused) × KeepsOthers w.name before now) ⊎ ((next : StoreView) × (Makes w before next × StopsAt refused ws next now))

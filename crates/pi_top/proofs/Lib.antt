@@ -1,4 +1,5 @@
 pub mod Complete
+mod Examples
 pub mod Exact
 pub mod Laid
 pub mod Lists

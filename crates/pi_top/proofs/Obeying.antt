@@ -13,7 +13,7 @@ use Rattle.pi_top.specs.declared.plain.run.RunEnd.TheVariants.{Returned, Limited
 use Rattle.pi_top.specs.declared.outcome.Outcome.{Outcome}
 use Rattle.pi_top.specs.declared.outcome.Outcome.TheVariants.{Usage, Missing, ReadFault, TooLarge, Memory, Broken, NotBuilt, Ran}
 use Rattle.pi_top.specs.Statuses.{is_owed, may_come}
-use Rattle.pi_top.specs.Answer.{Answered, Cuts, OwesOver, Raised, Wrote}
+use Rattle.pi_top.specs.Answer.{Answered, Cuts, OwesOver, Raised, RefusedWrite, Wrote}
 use Rattle.pi_top.specs.Obeys.{Obeys, TellsReadFault}
 use Rattle.pi_top.specs.Outcome.{Gives, OutcomeGives, status_of, lines_of}
 use Rattle.pi_top.proofs.Complete.{complete_of}
@@ -91,6 +91,18 @@ module _ (store store_now : StoreView) (command : Option Command) (out out_now e
   read_fault_of (Ran (Limited steps)) g told is = absurd (cc)
   read_fault_of (Ran OutFault) g told is = absurd (cc)
 
+  write_fault_of : (o : Outcome) → status_of o ≡ statuses.WriteFault → RefusedWrite (OwesOver store command) store store_now (λ line. Told line err err_now)
+  write_fault_of Usage is = absurd (cc)
+  write_fault_of (Missing name) is = absurd (cc)
+  write_fault_of (ReadFault name) is = absurd (cc)
+  write_fault_of (TooLarge name) is = absurd (cc)
+  write_fault_of Memory is = absurd (cc)
+  write_fault_of (Broken name rule at) is = absurd (cc)
+  write_fault_of NotBuilt is = absurd (cc)
+  write_fault_of (Ran (Returned steps)) is = absurd (cc)
+  write_fault_of (Ran (Limited steps)) is = absurd (cc)
+  write_fault_of (Ran OutFault) is = absurd (cc)
+
   memory_of : (o : Outcome) → OutcomeGives store store_now command o out out_now → Told (lines_of o) err err_now → status_of o ≡ statuses.Memory
       → (out_now ≡ out) × Told memory_line err err_now
   memory_of Usage g told is = absurd (cc)
@@ -118,6 +130,7 @@ module _ (once : OwesOnce) (law : SmallHasClass) (words : List (List ℕ)) (stor
     complete = complete_of law store store_now (command_of words) out out_now o g raised;
     out_fault = out_fault_of store store_now (command_of words) out out_now err err_now o g told;
     read_fault = read_fault_of store store_now (command_of words) out out_now err err_now o g told;
+    write_fault = write_fault_of store store_now (command_of words) out out_now err err_now o;
     memory = memory_of store store_now (command_of words) out out_now err err_now o g told;
     raised = raised;
     wrote = wrote;

@@ -4,8 +4,9 @@ use Rattle.pi_base.specs.declared.status.Status.{Status}
 use Rattle.pi_base.specs.declared.status.Status.TheVariants.{OutFault}
 use Rattle.pi_base.specs.Views.{Contents, StoreView, SinkView}
 use Rattle.pi_base.specs.Outside.{BrokeOff, Counts, Raises}
-use Rattle.pi_base.specs.Writes.{Write, MakesFront}
+use Rattle.pi_base.specs.Writes.{Write, MakesFront, StopsAt}
 use Rattle.pi_duty.specs.Command.{Command}
+use Rattle.pi_duty.specs.Lines.{write_fault_line}
 use Rattle.pi_duty.specs.Duty.{Owed, WordsOwe}
 use Rattle.pi_top.specs.Statuses.{ends_run, is_status, status_causes}
 
@@ -36,6 +37,14 @@ pub record Wrote (Owing : Owed → Type 0) (before now : StoreView) : Type 0 whe
   pub owed : Owed
   pub due : Owing owed
   pub made : MakesFront owed.writes before now
+
+-- the writes of something that is owed were made up to one that was refused, and the line of that one was told so
+pub record RefusedWrite (Owing : Owed → Type 0) (before now : StoreView) (Tells : List ℕ → Type 0) : Type 0 where
+  pub owed : Owed
+  pub due : Owing owed
+  pub refused : Write
+  pub stops : StopsAt refused owed.writes before now
+  pub told : Tells (write_fault_line refused.name)
 
 -- what a command raised: each count rose exactly where the status says so, and else stands
 pub record Raised (status : Status) (store store_now : StoreView) (out out_now : SinkView) : Type 0 where

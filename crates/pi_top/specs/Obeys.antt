@@ -9,7 +9,7 @@ use Rattle.pi_duty.specs.Command.{Command, Reads, command_of, writes_nothing}
 use Rattle.pi_duty.specs.Lines.{memory_line, out_fault_line, read_fault_line}
 use Rattle.pi_duty.specs.Duty.{Owed, Owes}
 use Rattle.pi_top.specs.Statuses.{ends_run, is_owed, is_status, may_come}
-use Rattle.pi_top.specs.Answer.{Answered, Cuts, OwesOver, Raised, Wrote}
+use Rattle.pi_top.specs.Answer.{Answered, Cuts, OwesOver, Raised, RefusedWrite, Wrote}
 use Rattle.pi_top.specs.SmallCall.{IsComplete}
 
 -- there is something to write
@@ -43,9 +43,10 @@ pub record Obeys (words : List (List ℕ)) (status : Status) (store store_now : 
   pub comes : IsTrue (may_come status)
   pub exact : IsExact store words status
   pub complete : IsComplete store store_now out out_now (command_of words) status
-  -- where the duty is not met: what is on the two sinks
+  -- where the duty is not met
   pub out_fault : status ≡ OutFault → Cuts (OwesOver store (command_of words)) out out_now × Told out_fault_line err err_now
   pub read_fault : status ≡ ReadFault → (out_now ≡ out) × IsSomeAnd (command_of words) (λ command. TellsReadFault command err err_now)
+  pub write_fault : status ≡ WriteFault → RefusedWrite (OwesOver store (command_of words)) store store_now (λ line. Told line err err_now)
   pub memory : status ≡ Memory → (out_now ≡ out) × Told memory_line err err_now
   -- the counts, and the contents
   pub raised : Raised status store store_now out out_now

@@ -1,9 +1,10 @@
 // The top call. docs/commands.md states the commands.
 ghost use Rattle.std.specs.Prelude.{◌≡◌, ◌⊎◌, ◌↔◌, map, string_bytes, None, IsTrue};
 ghost use Rattle.pi_base.specs.Outside.{Keeps};
-ghost use Rattle.pi_duty.specs.Command.{command_of, writes_nothing};
+ghost use Rattle.pi_duty.specs.Command.{writes_nothing};
 ghost use Rattle.pi_top.specs.Answer.{OwesOver, Raised, Wrote};
 ghost use Rattle.pi_top.specs.Obeys.{Obeys};
+ghost use Rattle.pi_top.specs.Calls.{asked};
 ghost use Rattle.pi_top.specs.Outcome.{OutcomeGives, status_of};
 
 use crate::commands::lazy::run_lazy;
@@ -39,11 +40,11 @@ fn answer<'a, S: Store, O: Sink>(
     store: &mut S,
     out: &mut O,
 ) -> Outcome<'a>
-    ensures gives { OutcomeGives (S.view store.old) (S.view store.new) (command_of (map string_bytes words.now.items)) result (O.view out.old) (O.view out.new) }
-    ensures usage { (status_of result ≡ Status.Usage) ↔ (command_of (map string_bytes words.now.items) ≡ None) }
+    ensures gives { OutcomeGives (S.view store.old) (S.view store.new) (asked words.now.items) result (O.view out.old) (O.view out.new) }
+    ensures usage { (status_of result ≡ Status.Usage) ↔ (asked words.now.items ≡ None) }
     ensures raised { Raised (status_of result) (S.view store.old) (S.view store.new) (O.view out.old) (O.view out.new) }
-    ensures wrote { Keeps (S.view store.old) (S.view store.new) ⊎ Wrote (OwesOver (S.view store.old) (command_of (map string_bytes words.now.items))) (S.view store.old) (S.view store.new) }
-    ensures only_reads { IsTrue (writes_nothing (command_of (map string_bytes words.now.items))) → Keeps (S.view store.old) (S.view store.new) }
+    ensures wrote { Keeps (S.view store.old) (S.view store.new) ⊎ Wrote (OwesOver (S.view store.old) (asked words.now.items)) (S.view store.old) (S.view store.new) }
+    ensures only_reads { IsTrue (writes_nothing (asked words.now.items)) → Keeps (S.view store.old) (S.view store.new) }
 {
     match read_words(words) {
         Some(Call::Lazy(call)) => run_lazy(alloc, call, store, out),

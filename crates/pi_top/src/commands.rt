@@ -1,7 +1,6 @@
 // The commands, a file for each, and which of them words ask for. docs/commands.md states the commands.
-ghost use Rattle.std.specs.Prelude.{◌≡◌, map, option_map, string_bytes};
-ghost use Rattle.pi_duty.specs.Command.{command_of};
-ghost use Rattle.pi_top.specs.Calls.{of_call};
+ghost use Rattle.std.specs.Prelude.{◌≡◌, option_map};
+ghost use Rattle.pi_top.specs.Calls.{asked, of_call};
 
 pub mod lazy;
 
@@ -15,7 +14,7 @@ pub enum Call<'a> {
 
 /// The command that the words ask for, where they ask for one.
 pub fn read_words<'a>(words: &'a Vec<String>) -> Option<Call<'a>>
-    ensures { option_map of_call result ≡ command_of (map string_bytes words.now.items) }
+    ensures { option_map of_call result ≡ asked words.now.items }
 {
     let call = read_lazy(words)?;
     Some(Call::Lazy(call))
