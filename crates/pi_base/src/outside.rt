@@ -29,10 +29,10 @@ pub enum SinkError {
 
 /// Contents by name, which calls read and replace whole.
 ///
-/// A store that is *shown* tells its contents to contracts; one that is not, as files of the
-/// system, tells none, and its clauses on contents say nothing. A store is *faithful* where a
-/// write that answered `Ok` is what the next read finds. Four counts say which refusals came.
-/// A count never falls, and stands once it is at the last value of a `u64`.
+/// What contracts see of a store is its view. A store that is *shown* tells its contents; those
+/// of another, as files of the system, mean nothing. A store is *faithful* where a write that
+/// answered `Ok` is what the next read finds. Four counts say which refusals came. A count never
+/// falls, and stands once it is at the last value of a `u64`.
 pub trait Store {
     ghost view: { Self → StoreView };
 
