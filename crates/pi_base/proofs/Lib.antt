@@ -1,1 +1,3 @@
-pub mod Grown
+mod Examples
+pub mod Taken
+pub mod Writing

@@ -1,6 +1,7 @@
 -- The meanings of a store in memory.
-use Rattle.std.specs.Prelude.{ℕ, List, Option, option_map, String, Vec}
+use Rattle.std.specs.Prelude.{ℕ, true, List, Option, option_map, String, Vec}
 use Rattle.std.specs.BTreeMap.{BTreeMap, get_by_text}
+use Rattle.pi_base.specs.Views.{StoreView}
 use Rattle.pi_base.specs.declared.mem_store.MemStore.{MemStore}
 
 module _ {Y Z : Type 0} where
@@ -8,9 +9,21 @@ module _ {Y Z : Type 0} where
   abbrev pub content_in : BTreeMap (String Y) (Vec ℕ Z) → List ℕ → Option (List ℕ)
   content_in files name = option_map (λ bytes. bytes.items) (get_by_text files name)
 
+-- what it shows: the contents, and how many calls were refused, by cause
+abbrev pub view_of : MemStore → StoreView
+view_of store = record {
+  shown = true;
+  faithful = true;
+  contents = content_in store.files;
+  read_faults = store.counts.read_faults;
+  write_faults = store.counts.write_faults;
+  misses = store.counts.misses;
+  overs = store.counts.overs;
+}
+
 -- the content of a name
-abbrev pub contents_of : MemStore → List ℕ → Option (List ℕ)
-contents_of store name = content_in store.files name
+abbrev pub content_of : MemStore → List ℕ → Option (List ℕ)
+content_of store name = content_in store.files name
 
 -- the numbers of the calls that fail
 abbrev pub fails_of : MemStore → List ℕ
@@ -19,16 +32,3 @@ fails_of store = store.plan.fails.items
 -- how many reads and writes were made
 abbrev pub calls_of : MemStore → ℕ
 calls_of store = store.plan.calls
-
--- how many calls were refused, by cause
-abbrev pub read_faults_of : MemStore → ℕ
-read_faults_of store = store.counts.read_faults
-
-abbrev pub write_faults_of : MemStore → ℕ
-write_faults_of store = store.counts.write_faults
-
-abbrev pub misses_of : MemStore → ℕ
-misses_of store = store.counts.misses
-
-abbrev pub overs_of : MemStore → ℕ
-overs_of store = store.counts.overs

@@ -1,6 +1,7 @@
 // The files of the system as a store, by a runtime. It tells no contents: what lies in files is
 // outside the proofs. docs/outside.md states the rules.
 ghost use Rattle.std.specs.Prelude.{◌≡◌, ◌≢◌, ◌≤◌, length, IfOk, None, false};
+ghost use Rattle.pi_base.specs.Outside.{IsFresh};
 
 use crate::counts::StoreCounts;
 use crate::outside::{Store, StoreError};
@@ -19,10 +20,7 @@ pub struct FileStore<R> {
 impl<R: Files> FileStore<R> {
     /// The files of `rt`, with nothing refused so far.
     pub fn new(rt: R) -> FileStore<R>
-        ensures read_faults { ⟦<FileStore<R> as Store>⟧.read_faults result ≡ 0 }
-        ensures write_faults { ⟦<FileStore<R> as Store>⟧.write_faults result ≡ 0 }
-        ensures misses { ⟦<FileStore<R> as Store>⟧.misses result ≡ 0 }
-        ensures overs { ⟦<FileStore<R> as Store>⟧.overs result ≡ 0 }
+        ensures { IsFresh (⟦<FileStore<R> as Store>⟧.view result) }
     {
         FileStore {
             rt,
@@ -32,19 +30,15 @@ impl<R: Files> FileStore<R> {
 }
 
 impl<R: Files> Store for FileStore<R> {
-    ghost shown = { λ _. false };
-
-    ghost faithful = { λ _. false };
-
-    ghost contents = { λ _ _. None };
-
-    ghost read_faults = { λ store. store.counts.read_faults };
-
-    ghost write_faults = { λ store. store.counts.write_faults };
-
-    ghost misses = { λ store. store.counts.misses };
-
-    ghost overs = { λ store. store.counts.overs };
+    ghost view = { λ store. record {
+      shown = false;
+      faithful = false;
+      contents = λ _. None;
+      read_faults = store.counts.read_faults;
+      write_faults = store.counts.write_faults;
+      misses = store.counts.misses;
+      overs = store.counts.overs;
+    } };
 
     /// A path where nothing is, is `Missing`. A folder, a path through something that is no
     /// folder, and every other fault but want of memory are `Failed`.

@@ -1,8 +1,8 @@
 // A sink in memory, with room that is taken when it is made, and with calls that fail by their
 // numbers. docs/outside.md states the rules.
-ghost use Rattle.std.specs.Prelude.{◌≡◌, ℕ, ◌+◌, ◌<◌, ◌≤◌, ◌⊎◌, ◌↔◌, min, length, take, is_err, IfOk, IsErr, OnErr, [], ◌++◌, Some, vec_len, vec_capacity};
+ghost use Rattle.std.specs.Prelude.{◌≡◌, ℕ, ◌+◌, ◌<◌, ◌≤◌, ◌⊎◌, ◌↔◌, min, length, IfOk, IsErr, OnErr, [], vec_len, vec_capacity};
 ghost use Rattle.pi_base.specs.Counters.{NextFails, raised};
-ghost use Rattle.pi_base.specs.Outside.{Counts};
+ghost use Rattle.pi_base.specs.Outside.{TakesFront};
 
 use crate::counts::raise;
 use crate::fail_plan::FailPlan;
@@ -20,7 +20,7 @@ pub struct MemSink {
 }
 
 impl MemSink {
-    ghost use Rattle.pi_base.specs.MemSink.{taken_of, room_of, fails_of, calls_of, faults_of};
+    ghost use Rattle.pi_base.specs.MemSink.{taken_of, view_of, room_of, fails_of, calls_of};
 
     /// A sink with room for `room` bytes, which fails the calls whose numbers from 1 are in
     /// `fails`.
@@ -29,7 +29,7 @@ impl MemSink {
         ensures room { IfOk result (λ sink. room_of sink ≡ room) }
         ensures fails { IfOk result (λ sink. fails_of sink ≡ fails.now) }
         ensures calls { IfOk result (λ sink. calls_of sink ≡ 0) }
-        ensures faults { IfOk result (λ sink. faults_of sink ≡ 0) }
+        ensures faults { IfOk result (λ sink. (view_of sink).faults ≡ 0) }
     {
         let plan = FailPlan::new(alloc, fails)?;
         Ok(MemSink {
@@ -49,19 +49,15 @@ impl MemSink {
 }
 
 impl Sink for MemSink {
-    ghost use Rattle.pi_base.specs.MemSink.{taken_of, room_of, fails_of, calls_of, faults_of};
+    ghost use Rattle.pi_base.specs.MemSink.{taken_of, view_of, room_of, fails_of, calls_of};
 
-    ghost bytes = { λ sink. Some (taken_of sink) };
-
-    ghost faults = { faults_of };
+    ghost view = { view_of };
 
     /// Keeps as much of `piece` as there is room for, and takes no memory.
     fn write(&mut self, piece: &[u8]) -> Result<usize, SinkError>
         ensures within { IfOk result (λ taken. taken ≤ length piece.now) }
         ensures progress { 0 < length piece.now → IfOk result (λ taken. 0 < taken) }
-        ensures appended { IfOk result (λ taken. taken_of self.new ≡ taken_of self.old ++ take taken piece.now) }
-        ensures nothing { OnErr result (taken_of self.new ≡ taken_of self.old) }
-        ensures counts_faults { Counts (is_err result) (faults_of self.old) (faults_of self.new) }
+        ensures takes_front { TakesFront piece.now result (view_of self.old) (view_of self.new) }
 
         ensures fails { IsErr result ↔ (NextFails (fails_of self.old) (calls_of self.old) ⊎ ((room_of self.old ≡ 0) × (0 < length piece.now))) }
         ensures takes_what_fits { IfOk result (λ taken. taken ≡ min (room_of self.old) (length piece.now)) }

@@ -3,8 +3,8 @@
 ghost use Rattle.std.specs.Prelude.{◌≡◌, ◌≢◌, ◌<◌, ◌≤◌, ◌↔◌, List, ℕ, length, option_map, true, IfOk, IsSomeAnd, OnOk, OnErr, Some, None};
 ghost use Rattle.std.specs.Result.{IsErrOf};
 ghost use Rattle.pi_base.specs.Counters.{NextFails, raised};
-ghost use Rattle.pi_base.specs.Outside.{Counts, OthersStand, is_failed, is_missing, is_too_large};
-ghost use Rattle.pi_base.specs.MemStore.{content_in, contents_of, fails_of, calls_of, read_faults_of, write_faults_of, misses_of, overs_of};
+ghost use Rattle.pi_base.specs.Outside.{Finds, Holds, IsFresh, Keeps, KeepsOthers, OthersStand, Raises, no_cause, read_causes, write_causes};
+ghost use Rattle.pi_base.specs.MemStore.{content_in, content_of, view_of, fails_of, calls_of};
 
 use crate::counts::StoreCounts;
 use crate::fail_plan::FailPlan;
@@ -25,13 +25,10 @@ impl MemStore {
     /// A store with no name in it, which fails the reads and writes whose numbers from 1, over
     /// both together, are in `fails`.
     pub fn new(alloc: Global, fails: &[u64]) -> Result<MemStore, AllocError>
-        ensures empty { IfOk result (λ store. (name : List ℕ) → contents_of store name ≡ None) }
+        ensures empty { IfOk result (λ store. (name : List ℕ) → content_of store name ≡ None) }
         ensures fails { IfOk result (λ store. fails_of store ≡ fails.now) }
         ensures calls { IfOk result (λ store. calls_of store ≡ 0) }
-        ensures read_faults { IfOk result (λ store. read_faults_of store ≡ 0) }
-        ensures write_faults { IfOk result (λ store. write_faults_of store ≡ 0) }
-        ensures misses { IfOk result (λ store. misses_of store ≡ 0) }
-        ensures overs { IfOk result (λ store. overs_of store ≡ 0) }
+        ensures fresh { IfOk result (λ store. IsFresh (view_of store)) }
     {
         Ok(MemStore {
             alloc,
@@ -44,55 +41,37 @@ impl MemStore {
     /// Makes `bytes` the content of `name`. This is no call of the store: it has no number,
     /// does not fail by the list, and raises no count.
     pub fn put(&mut self, alloc: Global, name: &str, bytes: &[u8]) -> Result<(), AllocError>
-        ensures written { OnOk result (contents_of self.new name.now ≡ Some bytes.now) }
-        ensures others_stand { OthersStand name.now (contents_of self.old) (contents_of self.new) }
-        ensures refused { OnErr result (contents_of self.new ≡ contents_of self.old) }
+        ensures written { OnOk result (content_of self.new name.now ≡ Some bytes.now) }
+        ensures others_stand { OthersStand name.now (content_of self.old) (content_of self.new) }
+        ensures refused { OnErr result (content_of self.new ≡ content_of self.old) }
+        ensures counts_stand { Raises no_cause (view_of self.old) (view_of self.new) }
         ensures fails_stand { fails_of self.new ≡ fails_of self.old }
         ensures calls_stand { calls_of self.new ≡ calls_of self.old }
-        ensures read_faults_stand { read_faults_of self.new ≡ read_faults_of self.old }
-        ensures write_faults_stand { write_faults_of self.new ≡ write_faults_of self.old }
-        ensures misses_stand { misses_of self.new ≡ misses_of self.old }
-        ensures overs_stand { overs_of self.new ≡ overs_of self.old }
     {
         set_content(&mut self.files, alloc, name, bytes)
     }
 
     /// The content of `name`.
     pub fn get(&self, name: &str) -> Option<&[u8]>
-        ensures { option_map (λ bytes. bytes.now) result ≡ contents_of self.now name.now }
+        ensures { option_map (λ bytes. bytes.now) result ≡ content_of self.now name.now }
     {
         content_of(&self.files, name)
     }
 }
 
 impl Store for MemStore {
-    ghost shown = { λ _. true };
-
-    ghost faithful = { λ _. true };
-
-    ghost contents = { contents_of };
-
-    ghost read_faults = { read_faults_of };
-
-    ghost write_faults = { write_faults_of };
-
-    ghost misses = { misses_of };
-
-    ghost overs = { overs_of };
+    ghost view = { view_of };
 
     /// A call of the list is `Failed`; else a name that is not there is `Missing`; else a content
     /// longer than the limit is `TooLarge`; and else only want of memory refuses the content.
     fn read(&mut self, alloc: Global, name: &str, limit: usize) -> Result<Vec<u8>, StoreError>
-        ensures contents_stand { contents_of self.new ≡ contents_of self.old }
-        ensures counts_faults { Counts (is_failed result) (read_faults_of self.old) (read_faults_of self.new) }
-        ensures write_faults_stand { write_faults_of self.new ≡ write_faults_of self.old }
-        ensures counts_misses { Counts (is_missing result) (misses_of self.old) (misses_of self.new) }
-        ensures counts_overs { Counts (is_too_large result) (overs_of self.old) (overs_of self.new) }
-
+        ensures keeps { Keeps (view_of self.old) (view_of self.new) }
+        ensures raises { Raises (read_causes result) (view_of self.old) (view_of self.new) }
         ensures fits { IfOk result (λ found. length found.items ≤ limit) }
-        ensures content { IfOk result (λ found. contents_of self.old name.now ≡ Some found.items) }
-        ensures missing { IsErrOf result StoreError.Missing ↔ (¬ NextFails (fails_of self.old) (calls_of self.old) × (contents_of self.old name.now ≡ None)) }
-        ensures too_large { IsErrOf result StoreError.TooLarge ↔ (¬ NextFails (fails_of self.old) (calls_of self.old) × IsSomeAnd (contents_of self.old name.now) (λ bytes. limit < length bytes)) }
+        ensures finds { Finds (content_of self.old name.now) limit result }
+
+        ensures missing { IsErrOf result StoreError.Missing ↔ (¬ NextFails (fails_of self.old) (calls_of self.old) × (content_of self.old name.now ≡ None)) }
+        ensures too_large { IsErrOf result StoreError.TooLarge ↔ (¬ NextFails (fails_of self.old) (calls_of self.old) × IsSomeAnd (content_of self.old name.now) (λ bytes. limit < length bytes)) }
         ensures failed { IsErrOf result StoreError.Failed ↔ NextFails (fails_of self.old) (calls_of self.old) }
 
         ensures list_stands { fails_of self.new ≡ fails_of self.old }
@@ -112,16 +91,13 @@ impl Store for MemStore {
     /// A call of the list is `Failed`, and else only want of memory refuses the write. After a
     /// refusal the name has what it had.
     fn write(&mut self, name: &str, bytes: &[u8]) -> Result<(), StoreError>
-        ensures counts_faults { Counts (is_failed result) (write_faults_of self.old) (write_faults_of self.new) }
-        ensures read_faults_stand { read_faults_of self.new ≡ read_faults_of self.old }
-        ensures misses_stand { misses_of self.new ≡ misses_of self.old }
-        ensures overs_stand { overs_of self.new ≡ overs_of self.old }
+        ensures keeps_others { KeepsOthers name.now (view_of self.old) (view_of self.new) }
+        ensures holds { OnOk result (Holds (view_of self.new) name.now bytes.now) }
+        ensures raises { Raises (write_causes result) (view_of self.old) (view_of self.new) }
         ensures never_missing { result ≢ Err StoreError.Missing }
         ensures never_too_large { result ≢ Err StoreError.TooLarge }
 
-        ensures others_stand { OthersStand name.now (contents_of self.old) (contents_of self.new) }
-        ensures written { OnOk result (contents_of self.new name.now ≡ Some bytes.now) }
-        ensures refused { OnErr result (contents_of self.new ≡ contents_of self.old) }
+        ensures refused { OnErr result (content_of self.new ≡ content_of self.old) }
         ensures failed { IsErrOf result StoreError.Failed ↔ NextFails (fails_of self.old) (calls_of self.old) }
 
         ensures list_stands { fails_of self.new ≡ fails_of self.old }

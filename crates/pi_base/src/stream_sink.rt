@@ -23,16 +23,14 @@ pub type ErrSink = StreamSink<Stderr>;
 impl<W: Write> StreamSink<W> {
     /// A sink over `writer` with no fault so far.
     pub fn new(writer: W) -> StreamSink<W>
-        ensures { ⟦<StreamSink<W> as Sink>⟧.faults result ≡ 0 }
+        ensures { (⟦<StreamSink<W> as Sink>⟧.view result).faults ≡ 0 }
     {
         StreamSink { writer, faults: 0 }
     }
 }
 
 impl<W: Write> Sink for StreamSink<W> {
-    ghost bytes = { λ _. None };
-
-    ghost faults = { λ sink. sink.faults };
+    ghost view = { λ sink. record { bytes = None; faults = sink.faults } };
 
     /// Writes once, again where a signal came first, and then flushes. A piece of which the
     /// writer takes nothing, and a failed flush, are `Failed`.

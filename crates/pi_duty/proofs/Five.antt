@@ -17,7 +17,8 @@ use Rattle.pi_machine.specs.Start.{is_main}
 use Rattle.pi_machine.specs.Ends.{Returned, StepLimit}
 use Rattle.pi_duty.specs.Small.{is_small}
 use Rattle.pi_duty.specs.Words.{LazyWords, same_word}
-use Rattle.pi_duty.specs.Duty.{Contents, Owed, Owes, LengthOwes, FileOwes, refused}
+use Rattle.pi_base.specs.Views.{Contents}
+use Rattle.pi_duty.specs.Duty.{Owed, Owes, LengthOwes, FileOwes, refused}
 
 -- what the file says behind the first file
 five : Program

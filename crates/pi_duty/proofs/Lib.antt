@@ -1,3 +1,5 @@
+pub mod NoWrites
 mod Once
+mod Commands
 mod Five
 mod Shapes

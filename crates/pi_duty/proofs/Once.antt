@@ -8,8 +8,10 @@ use Rattle.pi_format.specs.Says.{with_said}
 use Rattle.pi_machine.specs.Start.{main_of}
 use Rattle.pi_machine.proofs.RunLaws.{run_end_unique}
 use Rattle.pi_duty.specs.Small.{is_small}
-use Rattle.pi_duty.specs.Words.{LazyWords, lazy_words}
-use Rattle.pi_duty.specs.Duty.{Contents, Owed, RunOwes, ProgramOwes, FileOwes, LengthOwes, LazyOwes, CommandOwes, OwesOnce, ended, lazy_setting, most_bytes}
+use Rattle.pi_base.specs.Views.{Contents}
+use Rattle.pi_duty.specs.Words.{LazyWords}
+use Rattle.pi_duty.specs.Command.{Command, Lazy, command_of}
+use Rattle.pi_duty.specs.Duty.{Owed, RunOwes, ProgramOwes, FileOwes, LengthOwes, LazyOwes, CommandOwes, WordsOwe, OwesOnce, ended, lazy_setting, most_bytes}
 
 run_once : (p : Program) (steps : ℕ) (main : Option ℕ) (a b : Owed) → RunOwes p steps main a → RunOwes p steps main b → a ≡ b
 run_once p steps None a b x y = x ∙ sym y
@@ -32,9 +34,12 @@ lazy_once : (l : LazyWords) (file : Option (List ℕ)) (a b : Owed) → LazyOwes
 lazy_once l None a b x y = x ∙ sym y
 lazy_once l (Some file) a b x y = length_once (nat_lt most_bytes (length file)) l file a b x y
 
-command_once : (l : Option LazyWords) (contents : Contents) (a b : Owed) → CommandOwes l contents a → CommandOwes l contents b → a ≡ b
-command_once None contents a b x y = x ∙ sym y
-command_once (Some l) contents a b x y = lazy_once l (contents l.file) a b x y
+command_once : (command : Command) (contents : Contents) (a b : Owed) → CommandOwes command contents a → CommandOwes command contents b → a ≡ b
+command_once (Lazy l) contents a b x y = lazy_once l (contents l.file) a b x y
+
+words_once : (command : Option Command) (contents : Contents) (a b : Owed) → WordsOwe command contents a → WordsOwe command contents b → a ≡ b
+words_once None contents a b x y = x ∙ sym y
+words_once (Some command) contents a b x y = command_once command contents a b x y
 
 pub owes_one : OwesOnce
-owes_one = λ words contents a b x y. command_once (lazy_words words) contents a b x y
+owes_one = λ words contents a b x y. words_once (command_of words) contents a b x y

@@ -3,6 +3,8 @@
 use Rattle.std.specs.Prelude.{◌≡◌, ℕ, nat_lt, List, [], ◌++◌, length, Option, Some, None, Bool, true, false}
 use Rattle.pi_base.specs.declared.status.Status.{Status}
 use Rattle.pi_base.specs.declared.status.Status.TheVariants.{Done, Uncaught, Usage, Missing, Dex, Steps, Heap, Frames, TooLarge, NotBuilt}
+use Rattle.pi_base.specs.Views.{Contents}
+use Rattle.pi_base.specs.Writes.{Write}
 use Rattle.pi_model.specs.Program.{Program}
 use Rattle.pi_format.specs.Core.{core_program}
 use Rattle.pi_format.specs.Rules.{Broken, broken_rule}
@@ -12,20 +14,17 @@ use Rattle.pi_machine.specs.Start.{main_of}
 use Rattle.pi_machine.specs.Ends as ends
 use Rattle.pi_machine.specs.Ends.{End, Finish, Setting, EndsWith}
 use Rattle.pi_duty.specs.Small.{is_small}
-use Rattle.pi_duty.specs.Words.{LazyWords, lazy_words}
+use Rattle.pi_duty.specs.Words.{LazyWords}
+use Rattle.pi_duty.specs.Command.{Command, Lazy, command_of, writes_nothing}
 use Rattle.pi_duty.specs.Lines.{usage_line, missing_line, dex_line, too_large_line, not_built_line, step_limit_line, heap_limit_line, frame_limit_line, uncaught_line, made_line}
 
--- contents by name
-abbrev pub Contents : Type 0
-Contents = List ℕ → Option (List ℕ)
-
 -- what a command owes: its status, the bytes of its output, its lines on the error sink, and its writes to the store in
--- order, each a name and a content
+-- their order
 pub record Owed : Type 0 where
   pub status : Status
   pub output : List ℕ
   pub lines : List ℕ
-  pub writes : List (List ℕ × List ℕ)
+  pub writes : List Write
 
 -- a refusal: a line and nothing else
 abbrev pub refused : Status → List ℕ → Owed
@@ -88,14 +87,23 @@ abbrev pub LazyOwes : LazyWords → Option (List ℕ) → Owed → Type 0
 LazyOwes l None o = o ≡ refused Missing (missing_line l.file)
 LazyOwes l (Some file) o = LengthOwes (nat_lt most_bytes (length file)) l file o
 
-abbrev pub CommandOwes : Option LazyWords → Contents → Owed → Type 0
-CommandOwes None contents o = o ≡ refused Usage usage_line
-CommandOwes (Some l) contents o = LazyOwes l (contents l.file) o
+-- a command by what it is
+abbrev pub CommandOwes : Command → Contents → Owed → Type 0
+CommandOwes (Lazy l) contents o = LazyOwes l (contents l.file) o
 
--- what the command of these words owes over a store of these contents
+-- words that are no command are refused
+abbrev pub WordsOwe : Option Command → Contents → Owed → Type 0
+WordsOwe None contents o = o ≡ refused Usage usage_line
+WordsOwe (Some command) contents o = CommandOwes command contents o
+
+-- what these words owe over a store of these contents
 abbrev pub Owes : List (List ℕ) → Contents → Owed → Type 0
-Owes words contents o = CommandOwes (lazy_words words) contents o
+Owes words contents o = WordsOwe (command_of words) contents o
 
--- a command owes one thing at most
+-- words owe one thing at most
 abbrev pub OwesOnce : Type 0
 OwesOnce = (words : List (List ℕ)) (contents : Contents) (a b : Owed) → Owes words contents a → Owes words contents b → a ≡ b
+
+-- a command that only reads owes no write
+abbrev pub ReadersWriteNothing : Type 0
+ReadersWriteNothing = (command : Option Command) (contents : Contents) (o : Owed) → writes_nothing command ≡ true → WordsOwe command contents o → o.writes ≡ []

@@ -1,5 +1,6 @@
 -- What commands owe.
 pub mod Words
+pub mod Command
 pub mod Lines
 pub mod Small
 pub mod Shape

@@ -13,6 +13,9 @@ missing_line name = codes "missing " ++ line name
 abbrev pub read_fault_line : List ℕ → List ℕ
 read_fault_line name = codes "read fault " ++ line name
 
+abbrev pub write_fault_line : List ℕ → List ℕ
+write_fault_line name = codes "write fault " ++ line name
+
 -- a file breaks the rule of that number, at that offset
 abbrev pub place_line : ℕ → List ℕ
 place_line at = codes " at " ++ decimal at ++ codes "\n"

@@ -2,7 +2,7 @@
 // definitions stand in specs/, and docs/commands.md states them in words.
 #![tactic(auto)]
 
-ghost use Rattle.pi_duty.specs.Duty.{OwesOnce};
+ghost use Rattle.pi_duty.specs.Duty.{OwesOnce, ReadersWriteNothing};
 ghost use Rattle.pi_duty.specs.Shape.{SmallHasClass, SmallHasShape};
 
 use pi_format::core_fits;
@@ -11,6 +11,11 @@ use pi_said::said_keeps;
 /// For its words and for what the store holds a command owes one thing at most.
 pub fn owes_once()
     ensures { OwesOnce }
+{}
+
+/// A command that only reads owes no write to the store.
+pub fn readers_write_nothing()
+    ensures { ReadersWriteNothing }
 {}
 
 /// The law that a small program has one class behind those of the first file.

@@ -4,6 +4,7 @@ use Rattle.std.specs.Prelude.{nat_lt}
 use Rattle.std.proofs.lemmas.Bool.Decides.{nat_tests}
 use Rattle.pi_base.specs.declared.status.Status.{Status}
 use Rattle.pi_base.specs.declared.status.Status.TheVariants as statuses
+use Rattle.pi_base.specs.Views.{Contents, StoreView, SinkView}
 use Rattle.pi_base.specs.Outside.{Rose, Counts}
 use Rattle.pi_model.specs.Program.{Program, method_number}
 use Rattle.pi_format.specs.Core.{core_program}
@@ -15,12 +16,15 @@ use Rattle.pi_machine.specs.Ends.{End, Finish, EndsWith}
 use Rattle.pi_duty.specs.Small.{is_small}
 use Rattle.pi_duty.specs.Shape.{small_chain, HasSmallClass, SmallHasClass}
 use Rattle.pi_duty.specs.Words.{LazyWords}
-use Rattle.pi_duty.specs.Duty.{Contents, Owed, RunOwes, ProgramOwes, FileOwes, LengthOwes, LazyOwes, CommandOwes, ended, end_status, lazy_setting, most_bytes}
+use Rattle.pi_duty.specs.Command.{Command, Lazy}
+use Rattle.pi_duty.specs.Duty.{Owed, RunOwes, ProgramOwes, FileOwes, LengthOwes, LazyOwes, WordsOwe, ended, end_status, lazy_setting, most_bytes}
 use Rattle.pi_top.specs.declared.plain.run.RunEnd.TheVariants.{Returned, Limited, OutFault}
 use Rattle.pi_top.specs.declared.outcome.Outcome.{Outcome}
 use Rattle.pi_top.specs.declared.outcome.Outcome.TheVariants as outcome
 use Rattle.pi_top.specs.declared.outcome.Outcome.TheVariants.{Usage, Missing, ReadFault, TooLarge, Memory, NotBuilt, Ran}
-use Rattle.pi_top.specs.Answer.{RunEnds, OwesOver, IsSmallCall, EndsAsRun, is_owed, is_status}
+use Rattle.pi_top.specs.Statuses.{is_owed, is_status}
+use Rattle.pi_top.specs.Answer.{OwesOver, Raised}
+use Rattle.pi_top.specs.SmallCall.{RunEnds, IsComplete, IsSmallCall, EndsAsRun}
 use Rattle.pi_top.specs.Outcome.{OutcomeGives, status_of}
 use Rattle.pi_top.proofs.Lookups.{ClassIs, class_is}
 use Rattle.pi_top.proofs.Roles.{RolesOf, roles_of}
@@ -35,11 +39,8 @@ small_main text p s =
     (method, subst (λ (q : Program). main_of q text ≡ Some method) (sym s.chain) (finds_main s.new s.class text is s.distinct s.named roles.place roles.found))
 
 -- what the words owe, from the command inward
-command_owed : (command : Option LazyWords) (contents : Contents) (l : LazyWords) (o : Owed) → command ≡ Some l → CommandOwes command contents o → LazyOwes l (contents l.file) o
-command_owed None contents l o is h = absurd (cc)
-command_owed (Some k) contents l o is h =
-    let same : k ≡ l = cc in
-    subst (λ (x : LazyWords). LazyOwes x (contents x.file) o) same h
+command_owed : (command : Option Command) (contents : Contents) (l : LazyWords) (o : Owed) → command ≡ Some (Lazy l) → WordsOwe command contents o → LazyOwes l (contents l.file) o
+command_owed command contents l o is h = subst (λ (c : Option Command). WordsOwe c contents o) is h
 
 by_length : (long : Bool) (l : LazyWords) (file : List ℕ) (o : Owed) → long ≡ false → LengthOwes long l file o → FileOwes l (broken_rule file) (with_said core_program file) o
 by_length true l file o is h = absurd (cc)
@@ -78,7 +79,7 @@ done_or_steps ends.StepLimit h = refl
 done_or_steps ends.HeapLimit h = absurd (cc)
 done_or_steps ends.FrameLimit h = absurd (cc)
 
-module _ (law : SmallHasClass) (shown : Bool) (contents : Contents) (command : Option LazyWords) (call : IsSmallCall shown contents command) where
+module _ (law : SmallHasClass) (store store_now : StoreView) (command : Option Command) (call : IsSmallCall store command) where
   abbrev Runs : Status → Type 0
   Runs status = EndsAsRun call.program call.words.main call.words.steps status
 
@@ -90,16 +91,16 @@ module _ (law : SmallHasClass) (shown : Bool) (contents : Contents) (command : O
       subst (HasSmallClass call.words.main) (sym call.said) (law call.words.main call.file call.kept call.within small)
 
   -- what a small call owes is the end of a run
-  owed_run : (o : Owed) → OwesOver shown contents command o → (f : Finish) × (RunEnds call.program call.words.main call.words.steps f × (o ≡ ended call.program f))
+  owed_run : (o : Owed) → OwesOver store command o → (f : Finish) × (RunEnds call.program call.words.main call.words.steps f × (o ≡ ended call.program f))
   owed_run o due =
-      let over : CommandOwes command contents o = subst (λ (c : Contents). CommandOwes command c o) (due.as_shown call.shows) due.owes in
+      let over : WordsOwe command store.contents o = subst (λ (c : Contents). WordsOwe command c o) (due.as_shown call.shows) due.owes in
       let method : (m : ℕ) × (main_of call.program call.words.main ≡ Some m) = small_main call.words.main call.program has_class in
       let run : RunOwes call.program call.words.steps (main_of call.program call.words.main) o =
-      lazy_owed call.words (contents call.words.file) call.file call.program o call.there call.within call.kept call.said call.small
-      (command_owed command contents call.words o call.valid over) in
+      lazy_owed call.words (store.contents call.words.file) call.file call.program o call.there call.within call.kept call.said call.small
+      (command_owed command store.contents call.words o call.valid over) in
       run_owed call.program call.words.main call.words.steps (main_of call.program call.words.main) method.0 o method.1 method.1 run
 
-  ends_as : (status : Status) (o : Owed) → OwesOver shown contents command o → o.status ≡ status → IsTrue (is_owed status) → Runs status
+  ends_as : (status : Status) (o : Owed) → OwesOver store command o → o.status ≡ status → IsTrue (is_owed status) → Runs status
   ends_as status o due has owed =
       let r : (f : Finish) × (RunEnds call.program call.words.main call.words.steps f × (o ≡ ended call.program f)) = owed_run o due in
       let same : status ≡ end_status r.0.end = sym has ∙ ap (λ (x : Owed). x.status) r.1.1 in
@@ -111,8 +112,9 @@ module _ (law : SmallHasClass) (shown : Bool) (contents : Contents) (command : O
             (done_or_steps r.0.end (subst (λ (s : Status). IsTrue (is_owed s)) same owed));
       }
 
-  module _ (before now : Option (List ℕ)) (reads reads_now outs outs_now : ℕ) (no_read : ¬ Rose reads reads_now) (no_out : ¬ Rose outs outs_now) where
-    by_outcome : (o : Outcome) → OutcomeGives shown contents command o before now → Counts (is_status (status_of o) statuses.ReadFault) reads reads_now → Counts (is_status (status_of o) statuses.OutFault) outs outs_now
+  module _ (before now : SinkView) (no_read : ¬ Rose store.read_faults store_now.read_faults) (no_out : ¬ Rose before.faults now.faults) where
+    by_outcome : (o : Outcome) → OutcomeGives store store_now command o before now → Counts (is_status (status_of o) statuses.ReadFault) store.read_faults store_now.read_faults
+        → Counts (is_status (status_of o) statuses.OutFault) before.faults now.faults
         → (status_of o ≡ statuses.Memory) ⊎ Runs (status_of o)
     by_outcome Usage g read out = inr (ends_as statuses.Usage g.owed g.due g.has_status refl)
     by_outcome (Missing name) g read out = inr (ends_as statuses.Missing g.owed g.due g.has_status refl)
@@ -125,8 +127,8 @@ module _ (law : SmallHasClass) (shown : Bool) (contents : Contents) (command : O
     by_outcome (Ran (Limited steps)) g read out = inr (ends_as statuses.Steps g.owed g.due g.has_status refl)
     by_outcome (Ran OutFault) g read out = absurd (no_out out.1)
 
-    -- an answer of a small call that is no fault and no want of memory is the end of a run
-    pub complete_of : (status : Status) (o : Outcome) → status ≡ status_of o → OutcomeGives shown contents command o before now
-        → Counts (is_status (status_of o) statuses.ReadFault) reads reads_now → Counts (is_status (status_of o) statuses.OutFault) outs outs_now
-        → (status ≡ statuses.Memory) ⊎ Runs status
-    complete_of status o is g read out = subst (λ (s : Status). (s ≡ statuses.Memory) ⊎ Runs s) (sym is) (by_outcome o g read out)
+-- an answer of a small call that is no fault and no want of memory is the end of a run
+pub complete_of : (law : SmallHasClass) (store store_now : StoreView) (command : Option Command) (out out_now : SinkView) (o : Outcome) → OutcomeGives store store_now command o out out_now
+    → Raised (status_of o) store store_now out out_now → IsComplete store store_now out out_now command (status_of o)
+complete_of law store store_now command out out_now o g raised = λ call no_read no_out.
+    by_outcome law store store_now command call out out_now no_read no_out o g raised.of_store.read_faults raised.of_out

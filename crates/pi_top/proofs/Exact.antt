@@ -1,30 +1,44 @@
 -- The status is the one that is owed, but for the faults and want of memory.
-use Rattle.std.proofs.Common.{◌≡◌, ℕ, List, Option, Bool, true, IsTrue, refl, ap, sym, ◌∙◌, subst}
+use Rattle.std.proofs.Common.{◌≡◌, ℕ, List, Bool, true, false, ◌||◌, IsTrue, refl, ap, sym, ◌∙◌, subst}
 use Rattle.pi_base.specs.declared.status.Status.{Status}
 use Rattle.pi_base.specs.declared.status.Status.TheVariants as statuses
-use Rattle.pi_duty.specs.Words.{lazy_words}
-use Rattle.pi_duty.specs.Duty.{Contents, Owed, CommandOwes, Owes, OwesOnce}
+use Rattle.pi_base.specs.Views.{Contents, StoreView, SinkView}
+use Rattle.pi_base.specs.Writes.{Write, MakesAll}
+use Rattle.pi_duty.specs.Command.{command_of}
+use Rattle.pi_duty.specs.Duty.{Owed, WordsOwe, Owes, OwesOnce}
 use Rattle.pi_top.specs.declared.plain.run.RunEnd.TheVariants.{Returned, Limited, OutFault}
 use Rattle.pi_top.specs.declared.outcome.Outcome.{Outcome}
 use Rattle.pi_top.specs.declared.outcome.Outcome.TheVariants.{Usage, Missing, ReadFault, TooLarge, Memory, Broken, NotBuilt, Ran}
-use Rattle.pi_top.specs.Answer.{OwesOver, IsExact, is_as_owed, ends_run, is_status}
+use Rattle.pi_top.specs.Statuses.{ends_run, is_status}
+use Rattle.pi_top.specs.Answer.{OwesOver}
+use Rattle.pi_top.specs.Obeys.{IsExact, is_as_owed, may_stop}
 use Rattle.pi_top.specs.Outcome.{Gives, OutcomeGives, status_of}
 
-module _ (once : OwesOnce) (shown : Bool) (contents : Contents) (words : List (List ℕ)) (before now : Option (List ℕ)) (shows : IsTrue shown) (o : Owed) (due : Owes words contents o) where
-  same : (a : Owed) → OwesOver shown contents (lazy_words words) a → a ≡ o
-  same a over = once words contents a o (subst (λ (c : Contents). CommandOwes (lazy_words words) c a) (over.as_shown shows) over.owes) due
+or_right : (a b : Bool) → b ≡ true → IsTrue (a || b)
+or_right true b e = refl
+or_right false b e = e
 
-  given : (s : Status) (lines : List ℕ) → IsTrue (is_status s s) → Gives (OwesOver shown contents (lazy_words words)) s lines before now → IsTrue (is_status s o.status)
-  given s lines itself g =
-      let e : s ≡ o.status = sym g.has_status ∙ ap (λ (a : Owed). a.status) (same g.owed g.due) in
-      subst (λ (t : Status). IsTrue (is_status s t)) e itself
+module _ (once : OwesOnce) (store store_now : StoreView) (words : List (List ℕ)) (before now : SinkView) (shows : IsTrue store.shown) (o : Owed) (due : Owes words store.contents o) where
+  abbrev Made : List Write → Type 0
+  Made writes = MakesAll writes store store_now
 
-  cut : (a : Owed) → OwesOver shown contents (lazy_words words) a → IsTrue (ends_run a.status) → IsTrue (is_as_owed o statuses.OutFault)
+  same : (a : Owed) → OwesOver store (command_of words) a → a ≡ o
+  same a over = once words store.contents a o (subst (λ (c : Contents). WordsOwe (command_of words) c a) (over.as_shown shows) over.owes) due
+
+  as_owed : (s : Status) → s ≡ o.status → IsTrue (is_status s s) → IsTrue (is_as_owed o s)
+  as_owed s e itself =
+      let is : is_status s o.status ≡ true = subst (λ (t : Status). IsTrue (is_status s t)) e itself in
+      or_right (may_stop o s) (is_status s o.status) is
+
+  given : (s : Status) (lines : List ℕ) → IsTrue (is_status s s) → Gives (OwesOver store (command_of words)) s Made lines before now → IsTrue (is_as_owed o s)
+  given s lines itself g = as_owed s (sym g.has_status ∙ ap (λ (a : Owed). a.status) (same g.owed g.due)) itself
+
+  cut : (a : Owed) → OwesOver store (command_of words) a → IsTrue (ends_run a.status) → IsTrue (is_as_owed o statuses.OutFault)
   cut a over run =
       let ends : ends_run o.status ≡ true = subst (λ (x : Owed). IsTrue (ends_run x.status)) (same a over) run in
       rw ends refl
 
-  by_outcome : (r : Outcome) → OutcomeGives shown contents (lazy_words words) r before now → IsTrue (is_as_owed o (status_of r))
+  by_outcome : (r : Outcome) → OutcomeGives store store_now (command_of words) r before now → IsTrue (is_as_owed o (status_of r))
   by_outcome Usage g = given statuses.Usage _ refl g
   by_outcome (Missing name) g = given statuses.Missing _ refl g
   by_outcome (ReadFault name) g = refl
@@ -37,6 +51,7 @@ module _ (once : OwesOnce) (shown : Bool) (contents : Contents) (words : List (L
   by_outcome (Ran OutFault) g = cut g.owed g.due g.of_run
 
 -- the answer of an outcome is as owed
-pub exact_of : (once : OwesOnce) (shown : Bool) (contents : Contents) (words : List (List ℕ)) (before now : Option (List ℕ)) (status : Status) (r : Outcome) → status ≡ status_of r → OutcomeGives shown contents (lazy_words words) r before now → IsExact shown contents words status
-exact_of once shown contents words before now status r is g = λ shows o due.
-    subst (λ (s : Status). IsTrue (is_as_owed o s)) (sym is) (by_outcome once shown contents words before now shows o due r g)
+pub exact_of : (once : OwesOnce) (store store_now : StoreView) (words : List (List ℕ)) (before now : SinkView) (status : Status) (r : Outcome) → status ≡ status_of r
+    → OutcomeGives store store_now (command_of words) r before now → IsExact store words status
+exact_of once store store_now words before now status r is g = λ shows o due.
+    subst (λ (s : Status). IsTrue (is_as_owed o s)) (sym is) (by_outcome once store store_now words before now shows o due r g)

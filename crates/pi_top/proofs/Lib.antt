@@ -1,4 +1,5 @@
 pub mod Complete
+mod Examples
 pub mod Exact
 pub mod Laid
 pub mod Lists
@@ -7,6 +8,7 @@ pub mod MachineRows
 pub mod MachineRuns
 pub mod MachineStart
 pub mod MachineSteps
+pub mod Obeying
 pub mod Owing
 pub mod PlainLaws
 pub mod Puts

@@ -1,10 +1,14 @@
 -- What a lazy run owes, by what was read and by how the run ended.
-use Rattle.std.proofs.Common.{◌≡◌, ℕ, zero, suc, ◌<◌, ◌≤◌, List, [], ◌∷◌, ◌++◌, length, Option, Some, None, Result, Ok, Err, Bool, true, false, IsTrue, refl, ap, sym, ◌∙◌, subst, arith, codes, append-nil}
+use Rattle.std.proofs.Common.{◌≡◌, ℕ, zero, suc, ◌<◌, ◌≤◌, List, [], ◌∷◌, ◌++◌, length, Option, Some, None, Result, Ok, Err, Bool, true, false, IsTrue, refl, ap, sym, ◌∙◌, subst, arith, codes}
 use Rattle.std.specs.Prelude.{nat_lt, IsSomeAnd}
 use Rattle.std.proofs.lemmas.Bool.Decides.{nat_tests}
 use Rattle.pi_base.specs.declared.status.Status.{Status}
 use Rattle.pi_base.specs.declared.status.Status.TheVariants as statuses
-use Rattle.pi_base.specs.Outside.{grown}
+use Rattle.pi_base.specs.Views.{StoreView, SinkView}
+use Rattle.pi_base.specs.Outside.{Keeps}
+use Rattle.pi_base.specs.Writes.{Write, MakesAll}
+use Rattle.pi_base.proofs.Taken.{took_nothing}
+use Rattle.pi_base.proofs.Writing.{stands}
 use Rattle.pi_model.specs.Program.{Program}
 use Rattle.pi_format.specs.Core.{core_program}
 use Rattle.pi_format.specs.Rules as rules
@@ -19,16 +23,18 @@ use Rattle.pi_machine.specs.Start.{main_of}
 use Rattle.pi_machine.specs.Ends as ends
 use Rattle.pi_machine.specs.Ends.{End, Finish, EndsWith}
 use Rattle.pi_duty.specs.Words.{LazyWords}
-use Rattle.pi_duty.specs.Lines.{usage_line, missing_line, read_fault_line, dex_line, made_line, too_large_line, not_built_line}
-use Rattle.pi_duty.specs.Duty.{Contents, Owed, RunOwes, ProgramOwes, FileOwes, LengthOwes, LazyOwes, ended, end_status, end_lines, lazy_setting, most_bytes, refused}
+use Rattle.pi_duty.specs.Command.{Command, Lazy}
+use Rattle.pi_duty.specs.Lines.{usage_line, missing_line, dex_line, made_line, too_large_line, not_built_line}
+use Rattle.pi_duty.specs.Duty.{Owed, RunOwes, ProgramOwes, FileOwes, LengthOwes, LazyOwes, ended, end_status, end_lines, lazy_setting, most_bytes, refused}
 use Rattle.pi_top.specs.declared.plain.run.RunEnd.{RunEnd}
 use Rattle.pi_top.specs.declared.plain.run.RunEnd.TheVariants.{Returned, Limited, OutFault}
 use Rattle.pi_top.specs.declared.file.fault.FileFault.{FileFault}
 use Rattle.pi_top.specs.declared.file.fault.FileFault.TheVariants as fault
-use Rattle.pi_top.specs.declared.outcome.Outcome.{Outcome}
-use Rattle.pi_top.specs.declared.outcome.Outcome.TheVariants.{Usage, Missing, ReadFault, TooLarge, Memory, Broken, NotBuilt, Ran}
-use Rattle.pi_top.specs.Answer.{RunEnds, AnswersRun, OwesOver, Answered, ends_run, is_owed}
-use Rattle.pi_top.specs.Outcome.{Gives, EndGives, FileGives, OutcomeGives, status_of, lines_of}
+use Rattle.pi_top.specs.Statuses.{ends_run}
+use Rattle.pi_top.specs.Answer.{OwesOver}
+use Rattle.pi_top.specs.SmallCall.{RunEnds}
+use Rattle.pi_top.specs.Run.{AnswersRun}
+use Rattle.pi_top.specs.Outcome.{Gives, EndGives, FileGives, NoWrite}
 
 run_owes : (p : Program) (steps : ℕ) (main : Option ℕ) (method : ℕ) (f : Finish) → main ≡ Some method → EndsWith p (lazy_setting steps) method [] f → RunOwes p steps main (ended p f)
 run_owes p steps None method f is h = absurd (cc)
@@ -85,20 +91,22 @@ run_status ends.HeapLimit = refl
 run_status ends.FrameLimit = refl
 
 -- what the answer of a run says of what is owed
-end_gives : (owes : Owed → Type 0) (p : Program) (end : RunEnd) (f : Finish) (before now : Option (List ℕ)) → owes (ended p f) → AnswersRun end f before now → EndGives owes end before now
+end_gives : (owes : Owed → Type 0) (p : Program) (end : RunEnd) (f : Finish) (before now : SinkView) → owes (ended p f) → AnswersRun end f before now → EndGives owes NoWrite end before now
 end_gives owes p (Returned n) f before now due a = record {
   owed = ended p f;
   due = due;
   has_status = ap end_status a.0;
+  made = refl;
+  printed = a.2;
   told = ap (λ e. end_lines p e ++ made_line f.steps) a.0 ∙ ap made_line a.1;
-  written = a.2;
 }
 end_gives owes p (Limited n) f before now due a = record {
   owed = ended p f;
   due = due;
   has_status = ap end_status a.0;
+  made = refl;
+  printed = a.2;
   told = ap (λ e. end_lines p e ++ made_line f.steps) a.0 ∙ ap (λ k. codes "limit steps\n" ++ made_line k) a.1;
-  written = a.2;
 }
 end_gives owes p OutFault f before now due a = record { owed = ended p f; due = due; of_run = run_status f.end; begun = a }
 
@@ -109,41 +117,44 @@ said_owes l file p o short says due =
     subst (λ (q : Program). ProgramOwes (is_small l.main q) l q o) says.chain due in
     short_owes l file o short (kept_owes l (broken_rule file) (with_said core_program file) o says.kept there)
 
-pub run_gives : (name main text file : List ℕ) (steps : ℕ) (p : Program) (end : RunEnd) (before now : Option (List ℕ)) → text ≡ main → length file ≤ most_bytes
+pub run_gives : (name main text file : List ℕ) (steps : ℕ) (p : Program) (end : RunEnd) (before now : SinkView) → text ≡ main → length file ≤ most_bytes
     → SaysNext core_program file p → is_small text p ≡ true → ((f : Finish) × (RunEnds p text steps f × AnswersRun end f before now))
-    → EndGives (LazyOwes (record { file = name; main = main; steps = steps }) (Some file)) end before now
+    → EndGives (LazyOwes (record { file = name; main = main; steps = steps }) (Some file)) NoWrite end before now
 run_gives name main text file steps p end before now is short says small ends =
     let l : LazyWords = record { file = name; main = main; steps = steps } in
     let small' : is_small main p ≡ true = subst (λ m. is_small m p ≡ true) is small in
     let h : RunEnds p main steps ends.0 = subst (λ m. RunEnds p m steps ends.0) is ends.1.0 in
     end_gives (LazyOwes l (Some file)) p end ends.0 before now (said_owes l file p _ short says (program_owes (is_small main p) l p ends.0 small' h)) ends.1.1
 
-grown_nil : (before : Option (List ℕ)) → before ≡ grown before []
-grown_nil None = refl
-grown_nil (Some bytes) = ap (λ (b : List ℕ). Some b) (sym (append-nil bytes))
-
 -- a refusal is a line and nothing else
-refused_gives : (owes : Owed → Type 0) (status : Status) (line : List ℕ) (before : Option (List ℕ)) → owes (refused status line) → Gives owes status line before before
-refused_gives owes status line before due = record { owed = refused status line; due = due; has_status = refl; told = refl; written = grown_nil before }
+refused_gives : (owes : Owed → Type 0) (status : Status) (line : List ℕ) (before : SinkView) → owes (refused status line) → Gives owes status NoWrite line before before
+refused_gives owes status line before due = record {
+  owed = refused status line;
+  due = due;
+  has_status = refl;
+  made = refl;
+  printed = took_nothing before;
+  told = refl;
+}
 
 -- a program that is not small
-pub other_gives : (name main text file : List ℕ) (steps : ℕ) (p : Program) (before : Option (List ℕ)) → text ≡ main → length file ≤ most_bytes
+pub other_gives : (name main text file : List ℕ) (steps : ℕ) (p : Program) (before : SinkView) → text ≡ main → length file ≤ most_bytes
     → SaysNext core_program file p → is_small text p ≡ false
-    → Gives (LazyOwes (record { file = name; main = main; steps = steps }) (Some file)) statuses.NotBuilt not_built_line before before
+    → Gives (LazyOwes (record { file = name; main = main; steps = steps }) (Some file)) statuses.NotBuilt NoWrite not_built_line before before
 other_gives name main text file steps p before is short says small =
     let l : LazyWords = record { file = name; main = main; steps = steps } in
     let small' : is_small main p ≡ false = subst (λ m. is_small m p ≡ false) is small in
     refused_gives _ _ _ before (said_owes l file p _ short says (other_owes (is_small main p) l p small'))
 
 -- a file that breaks a rule
-pub broken_gives : (l : LazyWords) (file : List ℕ) (rule at : ℕ) (before : Option (List ℕ)) → length file ≤ most_bytes
-    → broken_rule file ≡ Some (record { rule = rule; at = at }) → Gives (LazyOwes l (Some file)) statuses.Dex (dex_line l.file rule at) before before
+pub broken_gives : (l : LazyWords) (file : List ℕ) (rule at : ℕ) (before : SinkView) → length file ≤ most_bytes
+    → broken_rule file ≡ Some (record { rule = rule; at = at }) → Gives (LazyOwes l (Some file)) statuses.Dex NoWrite (dex_line l.file rule at) before before
 broken_gives l file rule at before short is =
     refused_gives _ _ _ before (short_owes l file _ short (broken_owes l (broken_rule file) (with_said core_program file) (record { rule = rule; at = at }) is))
 
 -- what the reader answers, where it refuses the file
-pub reader_gives : (A : Type 0) (name main file : List ℕ) (steps : ℕ) (before : Option (List ℕ)) (f : DexFault) (e : FileFault) (r : Result RunEnd FileFault) → r ≡ Err e → e ≡ fault_of f
-    → length file ≤ most_bytes → Tells {A = A} (broken_rule file) (Err f) → FileGives name (LazyOwes (record { file = name; main = main; steps = steps }) (Some file)) r before before
+pub reader_gives : (A : Type 0) (name main file : List ℕ) (steps : ℕ) (before : SinkView) (f : DexFault) (e : FileFault) (r : Result RunEnd FileFault) → r ≡ Err e → e ≡ fault_of f
+    → length file ≤ most_bytes → Tells {A = A} (broken_rule file) (Err f) → FileGives name (LazyOwes (record { file = name; main = main; steps = steps }) (Some file)) NoWrite r before before
 reader_gives A name main file steps before f e (Ok end) is of short told = absurd (cc)
 reader_gives A name main file steps before dex.OutOfMemory e (Err fault.OutOfMemory) is of short told = refl
 reader_gives A name main file steps before dex.OutOfMemory e (Err (fault.Broken rule at)) is of short told = absurd (cc)
@@ -153,14 +164,17 @@ reader_gives A name main file steps before (dex.Rule rule at) e (Err fault.NotBu
 reader_gives A name main file steps before (dex.Rule rule at) e (Err (fault.Broken r2 a2)) is of short told =
     let same_rule : rule ≡ r2 = cc in
     let same_at : at ≡ a2 = cc in
-    subst (λ a. Gives (LazyOwes (record { file = name; main = main; steps = steps }) (Some file)) statuses.Dex (dex_line name r2 a) before before) same_at
-    (subst (λ r. Gives (LazyOwes (record { file = name; main = main; steps = steps }) (Some file)) statuses.Dex (dex_line name r at) before before) same_rule
+    subst (λ a. Gives (LazyOwes (record { file = name; main = main; steps = steps }) (Some file)) statuses.Dex NoWrite (dex_line name r2 a) before before) same_at
+    (subst (λ r. Gives (LazyOwes (record { file = name; main = main; steps = steps }) (Some file)) statuses.Dex NoWrite (dex_line name r at) before before) same_rule
     (broken_gives (record { file = name; main = main; steps = steps }) file rule at before short told))
 
 -- a store that shows what was found, or that shows nothing
-over : (shown : Bool) (contents : Contents) (l : LazyWords) (found : Option (List ℕ)) (o : Owed) → (IsTrue shown → contents l.file ≡ found) → LazyOwes l found o → OwesOver shown contents (Some l) o
-over true contents l found o h due = record { store = contents; as_shown = λ _. refl; owes = subst (λ c. LazyOwes l c o) (sym (h refl)) due }
-over false contents l found o h due = record { store = λ _. found; as_shown = λ s. absurd (cc); owes = due }
+over : (store : StoreView) (l : LazyWords) (found : Option (List ℕ)) (o : Owed) → (IsTrue store.shown → store.contents l.file ≡ found) → LazyOwes l found o → OwesOver store (Some (Lazy l)) o
+over store l found o h due = by_shown store.shown refl
+  where
+    by_shown : (shown : Bool) → store.shown ≡ shown → OwesOver store (Some (Lazy l)) o
+    by_shown true is = record { contents = store.contents; as_shown = λ _. refl; owes = subst (λ c. LazyOwes l c o) (sym (h is)) due }
+    by_shown false is = record { contents = λ _. found; as_shown = λ s. absurd (cc); owes = due }
 
 longer : (n : ℕ) → (xs : List ℕ) × (n < length xs)
 longer zero = (0 ∷ [], omega arith)
@@ -170,81 +184,68 @@ large_owes : (l : LazyWords) (found : Option (List ℕ)) → IsSomeAnd found (λ
 large_owes l None h = absurd h
 large_owes l (Some file) h = long_owes l file h
 
-large_over : (shown : Bool) (contents : Contents) (l : LazyWords) → (IsTrue shown → IsSomeAnd (contents l.file) (λ file. most_bytes < length file)) → OwesOver shown contents (Some l) (refused statuses.TooLarge (too_large_line l.file))
-large_over true contents l h = record { store = contents; as_shown = λ _. refl; owes = large_owes l (contents l.file) (h refl) }
-large_over false contents l h =
-    let other : (xs : List ℕ) × (most_bytes < length xs) = longer most_bytes in
-    record { store = λ _. Some other.0; as_shown = λ s. absurd (cc); owes = long_owes l other.0 other.1 }
+large_over : (store : StoreView) (l : LazyWords) → (IsTrue store.shown → IsSomeAnd (store.contents l.file) (λ file. most_bytes < length file)) → OwesOver store (Some (Lazy l)) (refused statuses.TooLarge (too_large_line l.file))
+large_over store l h = by_shown store.shown refl
+  where
+    by_shown : (shown : Bool) → store.shown ≡ shown → OwesOver store (Some (Lazy l)) (refused statuses.TooLarge (too_large_line l.file))
+    by_shown true is = record { contents = store.contents; as_shown = λ _. refl; owes = large_owes l (store.contents l.file) (h is) }
+    by_shown false is =
+        let other : (xs : List ℕ) × (most_bytes < length xs) = longer most_bytes in
+        record { contents = λ _. Some other.0; as_shown = λ s. absurd (cc); owes = long_owes l other.0 other.1 }
 
 -- what is said of one thing that is owed is said of another that it makes owed
-end_map : (P Q : Owed → Type 0) (end : RunEnd) (before now : Option (List ℕ)) → ((o : Owed) → P o → Q o) → EndGives P end before now → EndGives Q end before now
-end_map P Q (Returned n) before now k g = record { owed = g.owed; due = k g.owed g.due; has_status = g.has_status; told = g.told; written = g.written }
-end_map P Q (Limited n) before now k g = record { owed = g.owed; due = k g.owed g.due; has_status = g.has_status; told = g.told; written = g.written }
-end_map P Q OutFault before now k g = record { owed = g.owed; due = k g.owed g.due; of_run = g.of_run; begun = g.begun }
+module _ (P Q : Owed → Type 0) (M N : List Write → Type 0) (k : (o : Owed) → P o → Q o) (m : (ws : List Write) → M ws → N ws) (before now : SinkView) where
+  gives_map : (status : Status) (lines : List ℕ) → Gives P status M lines before now → Gives Q status N lines before now
+  gives_map status lines g = record {
+    owed = g.owed;
+    due = k g.owed g.due;
+    has_status = g.has_status;
+    made = m g.owed.writes g.made;
+    printed = g.printed;
+    told = g.told;
+  }
 
--- the same of a refusal
-refusal_over : (shown : Bool) (contents : Contents) (l : LazyWords) (file text : List ℕ) (status : Status) (lines : List ℕ) (before now : Option (List ℕ)) → text ≡ file
-    → (IsTrue shown → contents l.file ≡ Some file) → Gives (LazyOwes l (Some text)) status lines before now → Gives (OwesOver shown contents (Some l)) status lines before now
-refusal_over shown contents l file text status lines before now same h g = record {
-  owed = g.owed;
-  due = over shown contents l (Some file) g.owed h (subst (λ t. LazyOwes l (Some t) g.owed) same g.due);
-  has_status = g.has_status;
-  told = g.told;
-  written = g.written;
-}
+  end_map : (end : RunEnd) → EndGives P M end before now → EndGives Q N end before now
+  end_map (Returned n) g = gives_map statuses.Done _ g
+  end_map (Limited n) g = gives_map statuses.Steps _ g
+  end_map OutFault g = record { owed = g.owed; due = k g.owed g.due; of_run = g.of_run; begun = g.begun }
 
-pub file_over : (shown : Bool) (contents : Contents) (l : LazyWords) (file text : List ℕ) (r : Result RunEnd FileFault) (before now : Option (List ℕ)) → text ≡ file
-    → (IsTrue shown → contents l.file ≡ Some file) → FileGives l.file (LazyOwes l (Some text)) r before now → FileGives l.file (OwesOver shown contents (Some l)) r before now
-file_over shown contents l file text (Ok end) before now same h g =
-    end_map (LazyOwes l (Some text)) (OwesOver shown contents (Some l)) end before now
-    (λ o due. over shown contents l (Some file) o h (subst (λ t. LazyOwes l (Some t) o) same due)) g
-file_over shown contents l file text (Err fault.OutOfMemory) before now same h g = g
-file_over shown contents l file text (Err (fault.Broken rule at)) before now same h g = refusal_over shown contents l file text statuses.Dex (dex_line l.file rule at) before now same h g
-file_over shown contents l file text (Err fault.NotBuilt) before now same h g = refusal_over shown contents l file text statuses.NotBuilt not_built_line before now same h g
+  file_map : (name : List ℕ) (r : Result RunEnd FileFault) → FileGives name P M r before now → FileGives name Q N r before now
+  file_map name (Ok end) g = end_map end g
+  file_map name (Err fault.OutOfMemory) g = g
+  file_map name (Err (fault.Broken rule at)) g = gives_map statuses.Dex _ g
+  file_map name (Err fault.NotBuilt) g = gives_map statuses.NotBuilt _ g
 
-pub missing_gives : (shown : Bool) (contents : Contents) (l : LazyWords) (before : Option (List ℕ)) → (IsTrue shown → contents l.file ≡ None) → Gives (OwesOver shown contents (Some l)) statuses.Missing (missing_line l.file) before before
-missing_gives shown contents l before h = refused_gives _ _ _ before (over shown contents l None _ h refl)
+-- a store that kept its contents made all writes of a command that has none
+module _ (store store_now : StoreView) (keeps : Keeps store store_now) where
+  abbrev Made : List Write → Type 0
+  Made writes = MakesAll writes store store_now
 
-pub large_gives : (shown : Bool) (contents : Contents) (l : LazyWords) (before : Option (List ℕ)) → (IsTrue shown → IsSomeAnd (contents l.file) (λ file. most_bytes < length file)) → Gives (OwesOver shown contents (Some l)) statuses.TooLarge (too_large_line l.file) before before
-large_gives shown contents l before h = refused_gives _ _ _ before (large_over shown contents l h)
+  refused_made : (owes : Owed → Type 0) (status : Status) (line : List ℕ) (before : SinkView) → owes (refused status line) → Gives owes status Made line before before
+  refused_made owes status line before due = record {
+    owed = refused status line;
+    due = due;
+    has_status = refl;
+    made = keeps;
+    printed = took_nothing before;
+    told = refl;
+  }
 
-pub usage_gives : (shown : Bool) (contents : Contents) (command : Option LazyWords) (before : Option (List ℕ)) → None ≡ command → Gives (OwesOver shown contents command) statuses.Usage usage_line before before
-usage_gives shown contents None before is = refused_gives _ _ _ before (record { store = contents; as_shown = λ _. refl; owes = refl })
-usage_gives shown contents (Some l) before is = absurd (cc)
+  pub file_over : (l : LazyWords) (file text : List ℕ) (r : Result RunEnd FileFault) (before now : SinkView) → text ≡ file
+      → (IsTrue store.shown → store.contents l.file ≡ Some file) → FileGives l.file (LazyOwes l (Some text)) NoWrite r before now → FileGives l.file (OwesOver store (Some (Lazy l))) Made r before now
+  file_over l file text r before now same h g =
+      file_map (LazyOwes l (Some text)) (OwesOver store (Some (Lazy l))) NoWrite Made
+      (λ o due. over store l (Some file) o h (subst (λ t. LazyOwes l (Some t) o) same due))
+      (λ ws none. subst (λ (xs : List Write). MakesAll xs store store_now) (sym none) keeps)
+      before now l.file r g
 
-module _ (shown : Bool) (contents : Contents) (command : Option LazyWords) (before now : Option (List ℕ)) (tells : List ℕ → Type 0) (status : Status) where
-  abbrev Meets : Type 0
-  Meets = Answered (OwesOver shown contents command) status before now tells
+  pub missing_gives : (l : LazyWords) (before : SinkView) → (IsTrue store.shown → store.contents l.file ≡ None) → Gives (OwesOver store (Some (Lazy l))) statuses.Missing Made (missing_line l.file) before before
+  missing_gives l before h = refused_made _ _ _ before (over store l None _ h refl)
 
-  given : (s : Status) (lines : List ℕ) → status ≡ s → tells lines → Gives (OwesOver shown contents command) s lines before now → Meets
-  given s lines e told g = record { owed = g.owed; due = g.due; has_status = g.has_status ∙ sym e; written = g.written; told = subst tells (sym g.told) told }
+  pub large_gives : (l : LazyWords) (before : SinkView) → (IsTrue store.shown → IsSomeAnd (store.contents l.file) (λ file. most_bytes < length file))
+      → Gives (OwesOver store (Some (Lazy l))) statuses.TooLarge Made (too_large_line l.file) before before
+  large_gives l before h = refused_made _ _ _ before (large_over store l h)
 
-  -- an answer that is not a fault is what is owed, and its lines were told
-  pub owed_of : (o : Outcome) → status ≡ status_of o → OutcomeGives shown contents command o before now → tells (lines_of o) → IsTrue (is_owed status) → Meets
-  owed_of Usage e g told due = given _ _ e told g
-  owed_of (Missing name) e g told due = given _ _ e told g
-  owed_of (ReadFault name) e g told due = let h : is_owed status ≡ false = ap is_owed e in absurd (cc)
-  owed_of (TooLarge name) e g told due = given _ _ e told g
-  owed_of Memory e g told due = let h : is_owed status ≡ false = ap is_owed e in absurd (cc)
-  owed_of (Broken name rule at) e g told due = given _ _ e told g
-  owed_of NotBuilt e g told due = given _ _ e told g
-  owed_of (Ran (Returned steps)) e g told due = given _ _ e told g
-  owed_of (Ran (Limited steps)) e g told due = given _ _ e told g
-  owed_of (Ran OutFault) e g told due = let h : is_owed status ≡ false = ap is_owed e in absurd (cc)
-
-  named : (c : Option LazyWords) (name : List ℕ) → IsSomeAnd c (λ l. l.file ≡ name) → tells (read_fault_line name) → IsSomeAnd c (λ l. tells (read_fault_line l.file))
-  named None name h told = absurd h
-  named (Some l) name h told = subst (λ n. tells (read_fault_line n)) (sym h) told
-
-  -- a fault of a read is told by the name of the file
-  pub read_fault_of : (o : Outcome) → status ≡ status_of o → OutcomeGives shown contents command o before now → tells (lines_of o) → status ≡ statuses.ReadFault → IsSomeAnd command (λ l. tells (read_fault_line l.file))
-  read_fault_of Usage e g told is = absurd (cc)
-  read_fault_of (Missing name) e g told is = absurd (cc)
-  read_fault_of (ReadFault name) e g told is = named command name.now g.1 told
-  read_fault_of (TooLarge name) e g told is = absurd (cc)
-  read_fault_of Memory e g told is = absurd (cc)
-  read_fault_of (Broken name rule at) e g told is = absurd (cc)
-  read_fault_of NotBuilt e g told is = absurd (cc)
-  read_fault_of (Ran (Returned steps)) e g told is = absurd (cc)
-  read_fault_of (Ran (Limited steps)) e g told is = absurd (cc)
-  read_fault_of (Ran OutFault) e g told is = absurd (cc)
+pub usage_gives : (store : StoreView) (command : Option Command) (before : SinkView) → None ≡ command → Gives (OwesOver store command) statuses.Usage (λ writes. MakesAll writes store store) usage_line before before
+usage_gives store None before is = refused_made store store (stands store) _ _ _ before (record { contents = store.contents; as_shown = λ _. refl; owes = refl })
+usage_gives store (Some l) before is = absurd (cc)

@@ -11,7 +11,9 @@ use Rattle.pi_duty.specs.Small.{is_return, ends_in_return}
 use Rattle.pi_machine.specs.Ends.{Finish, Returned, StepLimit}
 use Rattle.pi_top.specs.declared.plain.place.Stage.{Stage}
 use Rattle.pi_top.specs.declared.plain.place.Stage.TheVariants.{Untouched, Entered, Valued, Initialising, Finishing, Ready, Running, Over}
-use Rattle.pi_base.specs.Outside.{grown, Begins}
+use Rattle.pi_base.specs.Views.{SinkView}
+use Rattle.pi_base.specs.Outside.{grown, Begins, BrokeOff}
+use Rattle.pi_base.proofs.Taken.{grown-grown, rose_after}
 use Rattle.pi_top.specs.Places.{Registers}
 use Rattle.pi_top.specs.Row.{effect_of}
 use Rattle.pi_top.specs.Plain.{View, Plain, insn_or_return, insn_of, effect_at, line_after, frame_after, stage_after, main_step, stage_after_values, clinit_move, plain_move, plain_step, is_over, finished, PlainEnds, FrameFits, ClinitFits, Fits}
@@ -187,17 +189,13 @@ pub record SoFar (v : View) (limit : ℕ) (start now : Plain) (made : ℕ) (befo
   pub fits : Fits v now
   pub within : made ≤ limit
 
-grown_twice : (before : Option (List ℕ)) (a b : List ℕ) → grown (grown before a) b ≡ grown before (a ++ b)
-grown_twice None a b = refl
-grown_twice (Some bytes) a b = ap Some (append_assoc bytes a b)
-
 -- a run so far, a step later
 pub so_far_on : (v : View) (limit : ℕ) (start now next : Plain) (made : ℕ) (before told later : Option (List ℕ)) → SoFar v limit start now made before told
     → is_over now.stage ≡ false → made ≢ limit → next ≡ (plain_step v now).state → later ≡ grown told (plain_step v now).printed
     → SoFar v limit start next (made + 1) before later
 so_far_on v limit start now next made before told later r goes more is printed = record {
   out = r.out ++ (plain_step v now).printed;
-  printed = printed ∙ (ap (λ (o : Option (List ℕ)). grown o (plain_step v now).printed) r.printed ∙ grown_twice before r.out (plain_step v now).printed);
+  printed = printed ∙ (ap (λ (o : Option (List ℕ)). grown o (plain_step v now).printed) r.printed ∙ grown-grown before r.out (plain_step v now).printed);
   back = λ f e. r.back f (ends_back v limit now made r.out f goes more
       (subst (λ (s : Plain). PlainEnds v limit s (made + 1) (r.out ++ (plain_step v now).printed) f) is e));
   fits = subst (Fits v) (sym is) (fits_on v now r.fits);
@@ -220,14 +218,22 @@ front_by v limit start now made before told later r goes more begins e = (
       r.out ++ begins.0,
       begins.1 ++ e.rest,
       joined r.out begins.0 begins.1 e.rest (plain_step v now).printed e.finish.output begins.2 e.front,
-      begins.3 ∙ (ap (λ (o : Option (List ℕ)). grown o begins.0) r.printed ∙ grown_twice before r.out begins.0),
+      begins.3 ∙ (ap (λ (o : Option (List ℕ)). grown o begins.0) r.printed ∙ grown-grown before r.out begins.0),
     ),
   ),
 )
 
-pub front_of_end : (v : View) (limit : ℕ) (start now : Plain) (made : ℕ) (before told later : Option (List ℕ)) → SoFar v limit start now made before told
+front_of_end : (v : View) (limit : ℕ) (start now : Plain) (made : ℕ) (before told later : Option (List ℕ)) → SoFar v limit start now made before told
     → is_over now.stage ≡ false → made ≢ limit → Begins (plain_step v now).printed told later
     → (f : Finish) × (PlainEnds v limit start 0 [] f × Begins f.output before later)
 front_of_end v limit start now made before told later r goes more begins =
     front_by v limit start now made before told later r goes more begins
     (ends_after v limit (plain_step v now).state (made + 1) (r.out ++ (plain_step v now).printed) (omega (arith, r.within)))
+
+-- where the sink breaks off in the output of a step, it breaks off in that of the run
+pub breaks_off : (v : View) (limit : ℕ) (start now : Plain) (made : ℕ) (before told later : SinkView) → SoFar v limit start now made before.bytes told.bytes
+    → told.faults ≡ before.faults → is_over now.stage ≡ false → made ≢ limit → BrokeOff (plain_step v now).printed told later
+    → (f : Finish) × (PlainEnds v limit start 0 [] f × BrokeOff f.output before later)
+breaks_off v limit start now made before told later r quiet goes more broke =
+    let e = front_of_end v limit start now made before.bytes told.bytes later.bytes r goes more broke.bytes in
+    (e.0, (e.1.0, record { bytes = e.1.1; faults = rose_after before.faults told.faults later.faults quiet broke.faults }))

@@ -21,7 +21,7 @@ use Rattle.pi_machine.specs.Codes.{code_in}
 use Rattle.pi_duty.specs.Duty.{lazy_setting}
 use Rattle.pi_machine.proofs.Truths.{some_same}
 use Rattle.pi_top.specs.declared.plain.place.Stage.TheVariants.{Untouched}
-use Rattle.pi_top.specs.Answer.{RunEnds}
+use Rattle.pi_top.specs.SmallCall.{RunEnds}
 use Rattle.pi_top.specs.Plain.{View, blank, clinit_words, plain_start, PlainEnds, FrameFits, ClinitFits, Fits}
 use Rattle.pi_top.specs.Roles.{method_named, HasMain, SeesClass}
 use Rattle.pi_top.proofs.Lists.{list_all-get}

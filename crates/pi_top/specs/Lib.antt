@@ -1,8 +1,13 @@
 pub mod Answer
+pub mod Calls
 pub mod Faults
+pub mod Obeys
 pub mod Outcome
 pub mod Places
 pub mod Plain
 pub mod Roles
 pub mod Row
+pub mod Run
 pub mod Seen
+pub mod SmallCall
+pub mod Statuses

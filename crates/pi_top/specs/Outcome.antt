@@ -1,10 +1,13 @@
 -- How the top call ended: its status and its lines, and what they say of what the words owe.
-use Rattle.std.specs.Prelude.{◌≡◌, ℕ, List, ◌++◌, Option, Result, Ok, Err, Bool, IsSomeAnd}
+use Rattle.std.specs.Prelude.{◌≡◌, ℕ, List, [], ◌++◌, Option, Result, Ok, Err, IsSomeAnd}
 use Rattle.pi_base.specs.declared.status.Status.{Status}
 use Rattle.pi_base.specs.declared.status.Status.TheVariants as statuses
-use Rattle.pi_duty.specs.Words.{LazyWords}
+use Rattle.pi_base.specs.Views.{StoreView, SinkView}
+use Rattle.pi_base.specs.Outside.{Took}
+use Rattle.pi_base.specs.Writes.{Write, MakesAll}
+use Rattle.pi_duty.specs.Command.{Command, Reads}
 use Rattle.pi_duty.specs.Lines.{usage_line, missing_line, read_fault_line, dex_line, too_large_line, memory_line, not_built_line, out_fault_line, step_limit_line, made_line}
-use Rattle.pi_duty.specs.Duty.{Contents, Owed}
+use Rattle.pi_duty.specs.Duty.{Owed}
 use Rattle.pi_top.specs.declared.plain.run.RunEnd.{RunEnd}
 use Rattle.pi_top.specs.declared.plain.run.RunEnd.TheVariants.{Returned, Limited, OutFault}
 use Rattle.pi_top.specs.declared.file.fault.FileFault.{FileFault}
@@ -43,30 +46,39 @@ lines_of (Broken name rule at) = dex_line name.now rule at
 lines_of NotBuilt = not_built_line
 lines_of (Ran end) = lines_of_end end
 
--- something that is owed has this status and these lines, and its output was written whole
-abbrev pub Gives : (Owed → Type 0) → Status → List ℕ → Option (List ℕ) → Option (List ℕ) → Type 0
-Gives Owing status lines before now = Answered Owing status before now (λ told. told ≡ lines)
+-- something that is owed has this status and these lines, its writes were made so, and its output was taken whole
+abbrev pub Gives : (Owed → Type 0) → Status → (List Write → Type 0) → List ℕ → SinkView → SinkView → Type 0
+Gives Owing status Made lines before now = Answered Owing status Made (λ output. Took output before now) (λ told. told ≡ lines)
 
 -- what the end of a run says of what is owed
-abbrev pub EndGives : (Owed → Type 0) → RunEnd → Option (List ℕ) → Option (List ℕ) → Type 0
-EndGives Owing (Returned steps) before now = Gives Owing statuses.Done (made_line steps) before now
-EndGives Owing (Limited steps) before now = Gives Owing statuses.Steps (step_limit_line ++ made_line steps) before now
-EndGives Owing OutFault before now = Cuts Owing before now
+abbrev pub EndGives : (Owed → Type 0) → (List Write → Type 0) → RunEnd → SinkView → SinkView → Type 0
+EndGives Owing Made (Returned steps) before now = Gives Owing statuses.Done Made (made_line steps) before now
+EndGives Owing Made (Limited steps) before now = Gives Owing statuses.Steps Made (step_limit_line ++ made_line steps) before now
+EndGives Owing Made OutFault before now = Cuts Owing before now
+
+-- there is nothing to write
+abbrev pub NoWrite : List Write → Type 0
+NoWrite writes = writes ≡ []
 
 -- the same of a file of that name that was read
-abbrev pub FileGives : List ℕ → (Owed → Type 0) → Result RunEnd FileFault → Option (List ℕ) → Option (List ℕ) → Type 0
-FileGives name Owing (Ok end) before now = EndGives Owing end before now
-FileGives name Owing (Err (fault.Broken rule at)) before now = Gives Owing statuses.Dex (dex_line name rule at) before now
-FileGives name Owing (Err fault.NotBuilt) before now = Gives Owing statuses.NotBuilt not_built_line before now
-FileGives name Owing (Err fault.OutOfMemory) before now = now ≡ before
+abbrev pub FileGives : List ℕ → (Owed → Type 0) → (List Write → Type 0) → Result RunEnd FileFault → SinkView → SinkView → Type 0
+FileGives name Owing Made (Ok end) before now = EndGives Owing Made end before now
+FileGives name Owing Made (Err (fault.Broken rule at)) before now = Gives Owing statuses.Dex Made (dex_line name rule at) before now
+FileGives name Owing Made (Err fault.NotBuilt) before now = Gives Owing statuses.NotBuilt Made not_built_line before now
+FileGives name Owing Made (Err fault.OutOfMemory) before now = now ≡ before
 
 -- the same of a command over a store
-abbrev pub OutcomeGives : Bool → Contents → Option LazyWords → Outcome → Option (List ℕ) → Option (List ℕ) → Type 0
-OutcomeGives shown contents command Usage before now = Gives (OwesOver shown contents command) statuses.Usage usage_line before now
-OutcomeGives shown contents command (Missing name) before now = Gives (OwesOver shown contents command) statuses.Missing (missing_line name.now) before now
-OutcomeGives shown contents command (ReadFault name) before now = (now ≡ before) × IsSomeAnd command (λ l. l.file ≡ name.now)
-OutcomeGives shown contents command (TooLarge name) before now = Gives (OwesOver shown contents command) statuses.TooLarge (too_large_line name.now) before now
-OutcomeGives shown contents command Memory before now = now ≡ before
-OutcomeGives shown contents command (Broken name rule at) before now = Gives (OwesOver shown contents command) statuses.Dex (dex_line name.now rule at) before now
-OutcomeGives shown contents command NotBuilt before now = Gives (OwesOver shown contents command) statuses.NotBuilt not_built_line before now
-OutcomeGives shown contents command (Ran end) before now = EndGives (OwesOver shown contents command) end before now
+module _ (command : Option Command) (Owing : Owed → Type 0) (Made : List Write → Type 0) (before now : SinkView) where
+  abbrev pub CommandGives : Outcome → Type 0
+  CommandGives Usage = Gives Owing statuses.Usage Made usage_line before now
+  CommandGives (Missing name) = Gives Owing statuses.Missing Made (missing_line name.now) before now
+  CommandGives (ReadFault name) = (now ≡ before) × IsSomeAnd command (λ c. Reads c name.now)
+  CommandGives (TooLarge name) = Gives Owing statuses.TooLarge Made (too_large_line name.now) before now
+  CommandGives Memory = now ≡ before
+  CommandGives (Broken name rule at) = Gives Owing statuses.Dex Made (dex_line name.now rule at) before now
+  CommandGives NotBuilt = Gives Owing statuses.NotBuilt Made not_built_line before now
+  CommandGives (Ran end) = EndGives Owing Made end before now
+
+-- what an outcome says of what the words owe over a store
+abbrev pub OutcomeGives : StoreView → StoreView → Option Command → Outcome → SinkView → SinkView → Type 0
+OutcomeGives store store_now command o before now = CommandGives command (OwesOver store command) (λ writes. MakesAll writes store store_now) before now o

@@ -3,8 +3,8 @@
 ghost use Rattle.std.specs.Prelude.{◌≡◌, ◌≤◌, length, List, ℕ, Some};
 ghost use Rattle.pi_base.specs.Outside.{Counts};
 ghost use Rattle.pi_duty.specs.Duty.{LazyOwes};
-ghost use Rattle.pi_top.specs.Answer.{ends_in_out_fault};
-ghost use Rattle.pi_top.specs.Outcome.{FileGives};
+ghost use Rattle.pi_top.specs.Outcome.{FileGives, NoWrite};
+ghost use Rattle.pi_top.specs.Run.{ends_in_out_fault};
 
 mod fault;
 
@@ -27,8 +27,8 @@ pub fn run_file<O: Sink>(
     out: &mut O,
 ) -> Result<RunEnd, FileFault>
     requires { length file.now ≤ 16777216 }
-    ensures gives { (name : List ℕ) → FileGives name (LazyOwes (record { file = name; main = main.now; steps = steps }) (Some file.now)) result (O.bytes out.old) (O.bytes out.new) }
-    ensures out_faults { Counts (ends_in_out_fault result) (O.faults out.old) (O.faults out.new) }
+    ensures gives { (name : List ℕ) → FileGives name (LazyOwes (record { file = name; main = main.now; steps = steps }) (Some file.now)) NoWrite result (O.view out.old) (O.view out.new) }
+    ensures out_faults { Counts (ends_in_out_fault result) (O.view out.old).faults (O.view out.new).faults }
 {
     let mut prog = core(alloc)?;
     append(alloc, &mut prog, file)?;

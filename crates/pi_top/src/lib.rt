@@ -3,9 +3,10 @@
 #![tactic(auto)]
 
 mod answer;
-mod command;
+mod commands;
 mod file;
 mod lines;
+mod operands;
 mod outcome;
 mod plain;
 

@@ -1,6 +1,6 @@
 // How the top call ended, the status of it, and the lines that tell it. docs/commands.md states both.
 ghost use Rattle.std.specs.Prelude.{◌≡◌};
-ghost use Rattle.pi_top.specs.Answer.{Told};
+ghost use Rattle.pi_base.specs.Outside.{Told};
 
 use crate::lines::{tell, tell_broken, tell_limit, tell_made, tell_name};
 use crate::plain::run::RunEnd;
@@ -42,7 +42,7 @@ impl Outcome<'_> {
 
     /// Tells the lines of the outcome.
     pub(crate) fn tell<E: Sink>(&self, err: &mut E)
-        ensures { Told (lines_of self.now) (E.bytes err.old) (E.bytes err.new) (E.faults err.old) (E.faults err.new) }
+        ensures { Told (lines_of self.now) (E.view err.old) (E.view err.new) }
     {
         match self {
             Outcome::Usage => tell(err, b"usage\n"),

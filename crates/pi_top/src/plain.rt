@@ -5,7 +5,8 @@ ghost use Rattle.std.specs.Prelude.{◌≡◌, ℕ, List, IfOk, OnErr};
 ghost use Rattle.pi_base.specs.Outside.{Counts};
 ghost use Rattle.pi_duty.specs.Shape.{IsSmall};
 ghost use Rattle.pi_machine.specs.Ends.{Finish};
-ghost use Rattle.pi_top.specs.Answer.{AnswersRun, RunEnds, ends_in_out_fault};
+ghost use Rattle.pi_top.specs.SmallCall.{RunEnds};
+ghost use Rattle.pi_top.specs.Run.{AnswersRun, ends_in_out_fault};
 
 mod place;
 mod row;
@@ -28,9 +29,9 @@ pub fn run_small<O: Sink>(
     out: &mut O,
 ) -> Result<RunEnd, AllocError>
     requires { (main : List ℕ) × IsSmall main prog.now }
-    ensures ends { (main : List ℕ) → IsSmall main prog.now → IfOk result (λ end. (f : Finish) × (RunEnds prog.now main steps f × AnswersRun end f (O.bytes out.old) (O.bytes out.new))) }
-    ensures memory { OnErr result (O.bytes out.new ≡ O.bytes out.old) }
-    ensures faults { Counts (ends_in_out_fault result) (O.faults out.old) (O.faults out.new) }
+    ensures ends { (main : List ℕ) → IsSmall main prog.now → IfOk result (λ end. (f : Finish) × (RunEnds prog.now main steps f × AnswersRun end f (O.view out.old) (O.view out.new))) }
+    ensures memory { OnErr result (O.view out.new ≡ O.view out.old) }
+    ensures faults { Counts (ends_in_out_fault result) (O.view out.old).faults (O.view out.new).faults }
 {
     let small = view(prog);
     let mut place = start(alloc, &small)?;

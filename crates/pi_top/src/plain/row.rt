@@ -1,7 +1,7 @@
 // The instructions of a small file, a row each. docs/machine.md states what each does.
 
 ghost use Rattle.std.specs.Prelude.{◌≡◌, ◌≤◌, ◌<◌, ◌+◌, length, take, IfOk, OnOk, OnErr, IsTrue, is_err, IsSome};
-ghost use Rattle.pi_base.specs.Outside.{Begins, Counts, grown};
+ghost use Rattle.pi_base.specs.Outside.{Puts};
 ghost use Rattle.pi_duty.specs.Small.{insn_fits};
 ghost use Rattle.pi_machine.specs.Printed.{printed_int};
 ghost use Rattle.pi_model.specs.Search.{own_field};
@@ -40,9 +40,7 @@ fn spell(word: u32, piece: &mut [u8; 12]) -> usize
 
 /// Prints a word as a signed decimal number and a newline, in one piece.
 fn print<O: Sink>(word: u32, out: &mut O) -> Result<(), SinkError>
-    ensures whole { OnOk result (O.bytes out.new ≡ grown (O.bytes out.old) (printed_int word)) }
-    ensures front { OnErr result (Begins (printed_int word) (O.bytes out.old) (O.bytes out.new)) }
-    ensures faults { Counts (is_err result) (O.faults out.old) (O.faults out.new) }
+    ensures puts { Puts (printed_int word) result (O.view out.old) (O.view out.new) }
 {
     let mut piece = [0u8; 12];
     let size = spell(word, &mut piece);
@@ -63,9 +61,7 @@ pub fn perform<O: Sink>(
     ensures registers { registers.new ≡ (effect_of class.now insn.now registers.old statics.old).registers }
     ensures statics { statics.new ≡ (effect_of class.now insn.now registers.old statics.old).statics }
     ensures returns { IfOk result (λ r. r ≡ (effect_of class.now insn.now registers.old statics.old).returns) }
-    ensures whole { OnOk result (O.bytes out.new ≡ grown (O.bytes out.old) (effect_of class.now insn.now registers.old statics.old).printed) }
-    ensures front { OnErr result (Begins (effect_of class.now insn.now registers.old statics.old).printed (O.bytes out.old) (O.bytes out.new)) }
-    ensures faults { Counts (is_err result) (O.faults out.old) (O.faults out.new) }
+    ensures puts { Puts (effect_of class.now insn.now registers.old statics.old).printed result (O.view out.old) (O.view out.new) }
 {
     match insn {
         Insn::Const { a, v } => {

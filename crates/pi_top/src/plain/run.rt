@@ -3,8 +3,8 @@
 ghost use Rattle.std.specs.Prelude.{◌≡◌, ◌<◌, []};
 ghost use Rattle.pi_base.specs.Outside.{Counts};
 ghost use Rattle.pi_machine.specs.Ends.{Finish};
-ghost use Rattle.pi_top.specs.Answer.{AnswersRun, is_out_fault};
 ghost use Rattle.pi_top.specs.Plain.{is_over, PlainEnds, Fits};
+ghost use Rattle.pi_top.specs.Run.{AnswersRun, is_out_fault};
 ghost use Rattle.pi_top.specs.Seen.{view_of, plain_of};
 
 use crate::plain::place::{Place, Small, Stage};
@@ -32,8 +32,8 @@ fn has_returned(stage: Stage) -> bool
 /// Makes steps until the run is over or so many are made.
 pub fn run<O: Sink>(small: &Small<'_>, place: &mut Place, limit: u64, out: &mut O) -> RunEnd
     requires fits { Fits (view_of small.now) (plain_of place.old) }
-    ensures ends { (f : Finish) × (PlainEnds (view_of small.now) limit (plain_of place.old) 0 [] f × AnswersRun result f (O.bytes out.old) (O.bytes out.new)) }
-    ensures faults { Counts (is_out_fault result) (O.faults out.old) (O.faults out.new) }
+    ensures ends { (f : Finish) × (PlainEnds (view_of small.now) limit (plain_of place.old) 0 [] f × AnswersRun result f (O.view out.old) (O.view out.new)) }
+    ensures faults { Counts (is_out_fault result) (O.view out.old).faults (O.view out.new).faults }
 {
     let mut made = 0;
     'steps: while !has_returned(place.stage) {

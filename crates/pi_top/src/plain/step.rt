@@ -1,7 +1,7 @@
 // One step of the plain run. docs/machine.md states the moves.
 
 ghost use Rattle.std.specs.Prelude.{◌≡◌, ◌≢◌, ◌<◌, length, IfOk, OnOk, OnErr, is_err};
-ghost use Rattle.pi_base.specs.Outside.{Begins, Counts, grown};
+ghost use Rattle.pi_base.specs.Outside.{Puts};
 ghost use Rattle.pi_top.specs.Plain.{effect_at, frame_after, plain_step, plain_move, stage_after_values, FrameFits, Fits};
 ghost use Rattle.pi_top.specs.Seen.{view_of, plain_of};
 
@@ -23,9 +23,7 @@ fn advance<O: Sink>(
     ensures frame { OnOk result (frame.new ≡ frame_after (effect_at class.now code.now frame.old statics.old) frame.old) }
     ensures statics { OnOk result (statics.new ≡ (effect_at class.now code.now frame.old statics.old).statics) }
     ensures returns { IfOk result (λ r. r ≡ (effect_at class.now code.now frame.old statics.old).returns) }
-    ensures whole { OnOk result (O.bytes out.new ≡ grown (O.bytes out.old) (effect_at class.now code.now frame.old statics.old).printed) }
-    ensures front { OnErr result (Begins (effect_at class.now code.now frame.old statics.old).printed (O.bytes out.old) (O.bytes out.new)) }
-    ensures faults { Counts (is_err result) (O.faults out.old) (O.faults out.new) }
+    ensures puts { Puts (effect_at class.now code.now frame.old statics.old).printed result (O.view out.old) (O.view out.new) }
 {
     let count = code.insns.len();
     prove!(frame.line < count);
@@ -48,9 +46,7 @@ pub fn step<O: Sink>(small: &Small<'_>, place: &mut Place, out: &mut O) -> Resul
     requires goes { place.old.stage ≢ Stage.Over }
     requires fits { Fits (view_of small.now) (plain_of place.old) }
     ensures state { OnOk result (plain_of place.new ≡ (plain_step (view_of small.now) (plain_of place.old)).state) }
-    ensures whole { OnOk result (O.bytes out.new ≡ grown (O.bytes out.old) (plain_step (view_of small.now) (plain_of place.old)).printed) }
-    ensures front { OnErr result (Begins (plain_step (view_of small.now) (plain_of place.old)).printed (O.bytes out.old) (O.bytes out.new)) }
-    ensures faults { Counts (is_err result) (O.faults out.old) (O.faults out.new) }
+    ensures puts { Puts (plain_step (view_of small.now) (plain_of place.old)).printed result (O.view out.old) (O.view out.new) }
 {
     match place.stage {
         Stage::Untouched => place.stage = Stage::Entered,
@@ -80,9 +76,7 @@ fn initialise<O: Sink>(small: &Small<'_>, place: &mut Place, out: &mut O) -> Res
     requires stage { place.old.stage ≡ Stage.Initialising }
     requires fits { Fits (view_of small.now) (plain_of place.old) }
     ensures state { OnOk result (plain_of place.new ≡ (plain_move (view_of small.now) (plain_of place.old) Stage.Initialising).state) }
-    ensures whole { OnOk result (O.bytes out.new ≡ grown (O.bytes out.old) (plain_move (view_of small.now) (plain_of place.old) Stage.Initialising).printed) }
-    ensures front { OnErr result (Begins (plain_move (view_of small.now) (plain_of place.old) Stage.Initialising).printed (O.bytes out.old) (O.bytes out.new)) }
-    ensures faults { Counts (is_err result) (O.faults out.old) (O.faults out.new) }
+    ensures puts { Puts (plain_move (view_of small.now) (plain_of place.old) Stage.Initialising).printed result (O.view out.old) (O.view out.new) }
 {
     let Some(code) = small.clinit else {
         unreachable!()
@@ -104,9 +98,7 @@ fn go_on<O: Sink>(small: &Small<'_>, place: &mut Place, out: &mut O) -> Result<(
     requires stage { place.old.stage ≡ Stage.Running }
     requires fits { Fits (view_of small.now) (plain_of place.old) }
     ensures state { OnOk result (plain_of place.new ≡ (plain_move (view_of small.now) (plain_of place.old) Stage.Running).state) }
-    ensures whole { OnOk result (O.bytes out.new ≡ grown (O.bytes out.old) (plain_move (view_of small.now) (plain_of place.old) Stage.Running).printed) }
-    ensures front { OnErr result (Begins (plain_move (view_of small.now) (plain_of place.old) Stage.Running).printed (O.bytes out.old) (O.bytes out.new)) }
-    ensures faults { Counts (is_err result) (O.faults out.old) (O.faults out.new) }
+    ensures puts { Puts (plain_move (view_of small.now) (plain_of place.old) Stage.Running).printed result (O.view out.old) (O.view out.new) }
 {
     if advance(
         small.class,

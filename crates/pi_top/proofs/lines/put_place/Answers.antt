@@ -1,10 +1,10 @@
 use Rattle.std.proofs.Common.{◌++◌, codes}
 use Rattle.std.specs.Prelude.{decimal}
-use Rattle.pi_top.proofs.Puts.{puts_stops, puts_then}
+use Rattle.pi_base.proofs.Taken.{puts_stops, puts_then}
 use Rattle.pi_top.proofs.lines.put_place.Goals as goal
 
 pub returns-in_err-put_number : goal.returns-in_err-put_number
-returns-in_err-put_number g c = puts_stops (codes " at " ++ decimal c.args.at) (codes "\n") c.put_number.result c.in_err-put_number.field-0.0 c.from_residual.result _ _ _ _ c.in_err-put_number.was c.from_residual.ensures.0 c.put_number.ensures
+returns-in_err-put_number g c = puts_stops (codes " at " ++ decimal c.args.at) (codes "\n") c.put_number.result c.in_err-put_number.field-0.0 c.from_residual.result _ _ c.in_err-put_number.was c.from_residual.ensures.0 c.put_number.ensures
 
 pub returns : goal.returns
-returns g c = puts_then (codes " at " ++ decimal c.args.at) (codes "\n") c.put_number.result c.in_ok-put_number.field-0 c.put.result _ _ _ _ _ _ c.in_ok-put_number.was c.put_number.ensures c.put.ensures
+returns g c = puts_then (codes " at " ++ decimal c.args.at) (codes "\n") c.put_number.result c.in_ok-put_number.field-0 c.put.result _ _ _ c.in_ok-put_number.was c.put_number.ensures c.put.ensures

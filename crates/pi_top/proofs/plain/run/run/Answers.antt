@@ -3,7 +3,7 @@ use Rattle.std.proofs.Common.{◌≡◌, true, false, refl, ◌∙◌}
 use Rattle.pi_machine.specs.Ends.{Returned, StepLimit}
 use Rattle.pi_top.specs.Plain.{finished, is_over, PlainEnds}
 use Rattle.pi_top.specs.Seen.{view_of, plain_of}
-use Rattle.pi_top.proofs.PlainLaws.{ends_over, ends_limited, so_far_on, front_of_end}
+use Rattle.pi_top.proofs.PlainLaws.{ends_over, ends_limited, so_far_on, breaks_off}
 use Rattle.pi_top.proofs.plain.run.run.Goals as goal
 
 pub returns-then-made-limit-clause-ends : goal.returns-then-made-limit-clause-ends
@@ -11,24 +11,24 @@ returns-then-made-limit-clause-ends g c =
     let goes : is_over c.steps.place.stage ≡ false = cc in
     let end : PlainEnds (view_of c.args.small.now) c.args.limit (plain_of c.steps.place) c.steps.made c.steps.invariant.run.out (finished StepLimit c.steps.invariant.run.out c.steps.made) =
     ends_limited _ _ _ _ _ goes c.if-made-limit.true in
-    (finished StepLimit c.steps.invariant.run.out c.steps.made, (c.steps.invariant.run.back _ end, (refl, refl, c.steps.invariant.run.printed)))
+    (finished StepLimit c.steps.invariant.run.out c.steps.made, (c.steps.invariant.run.back _ end, (refl, refl, record { bytes = c.steps.invariant.run.printed; faults = c.steps.invariant.faults })))
 
 pub returns-clause-ends : goal.returns-clause-ends
 returns-clause-ends g c =
     let over : is_over c.steps.place.stage ≡ true = cc in
     let end : PlainEnds (view_of c.args.small.now) c.args.limit (plain_of c.steps.place) c.steps.made c.steps.invariant.run.out (finished Returned c.steps.invariant.run.out c.steps.made) =
     ends_over _ _ _ _ _ over in
-    (finished Returned c.steps.invariant.run.out c.steps.made, (c.steps.invariant.run.back _ end, (refl, refl, c.steps.invariant.run.printed)))
+    (finished Returned c.steps.invariant.run.out c.steps.made, (c.steps.invariant.run.back _ end, (refl, refl, record { bytes = c.steps.invariant.run.printed; faults = c.steps.invariant.faults })))
 
 pub steps-preserved : goal.steps-preserved
 steps-preserved g c =
     let goes : is_over c.steps.place.stage ≡ false = cc in
     record {
-      run = so_far_on _ _ _ _ _ _ _ _ _ c.steps.invariant.run goes c.if-made-limit.false c.in-Ok.ensures.state c.in-Ok.ensures.whole;
-      faults = c.in-Ok.ensures.faults ∙ c.steps.invariant.faults;
+      run = so_far_on _ _ _ _ _ _ _ _ _ c.steps.invariant.run goes c.if-made-limit.false c.in-Ok.ensures.state c.in-Ok.ensures.puts.bytes;
+      faults = c.in-Ok.ensures.puts.faults ∙ c.steps.invariant.faults;
     }
 
 pub returns-in-Err-clause-ends : goal.returns-in-Err-clause-ends
 returns-in-Err-clause-ends g c =
     let goes : is_over c.steps.place.stage ≡ false = cc in
-    front_of_end _ _ _ _ _ _ _ _ c.steps.invariant.run goes c.if-made-limit.false c.in-Err.ensures.front
+    breaks_off _ _ _ _ _ _ _ _ c.steps.invariant.run c.steps.invariant.faults goes c.if-made-limit.false c.in-Err.ensures.puts

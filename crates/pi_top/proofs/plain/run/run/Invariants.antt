@@ -10,8 +10,8 @@ pub record Invariant (so_far quiet : Type 0) : Type 0 where
 
 abbrev pub invariant-steps : goal.invariant-steps
 invariant-steps g l = Invariant
-    (SoFar (view_of l.small) l.limit (plain_of l.initial.place) (plain_of l.place) l.made (g.O.Sink.bytes l.initial.out) (g.O.Sink.bytes l.out))
-    (g.O.Sink.faults l.out ≡ g.O.Sink.faults l.initial.out)
+    (SoFar (view_of l.small) l.limit (plain_of l.initial.place) (plain_of l.place) l.made (g.O.Sink.view l.initial.out).bytes (g.O.Sink.view l.out).bytes)
+    ((g.O.Sink.view l.out).faults ≡ (g.O.Sink.view l.initial.out).faults)
 
 abbrev pub decreases-steps : goal.decreases-steps
 decreases-steps g l = l.limit - l.made

@@ -1,7 +1,7 @@
 use Rattle.std.proofs.Common.{rules, arith, ◌≡◌, true}
 use Rattle.pi_duty.specs.Words.{is_number}
 use Rattle.pi_top.proofs.Wording.{number_too_great}
-use Rattle.pi_top.proofs.command.read_number.Goals as goal
+use Rattle.pi_top.proofs.operands.read_number.Goals as goal
 
 pub returns-in-Err : goal.returns-in-Err
 returns-in-Err c =

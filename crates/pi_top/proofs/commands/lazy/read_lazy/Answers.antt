@@ -2,8 +2,8 @@ use Rattle.std.proofs.Common.{arith, map, string_bytes}
 use borrow.Author.Tests.{ltb-false, ltb-true}
 use Rattle.std.proofs.lemmas.List.{length-map}
 use Rattle.pi_top.proofs.Wording.{lazy_words-none}
-use Rattle.pi_top.proofs.command.read_words.Goals as goal
-use Rattle.pi_top.proofs.command.read_words.Goals.{in_default-via-then-as_slice-lt4, in_default-via-else-as_slice-lt4+else-this-lt5}
+use Rattle.pi_top.proofs.commands.lazy.read_lazy.Goals as goal
+use Rattle.pi_top.proofs.commands.lazy.read_lazy.Goals.{in_default-via-then-as_slice-lt4, in_default-via-else-as_slice-lt4+else-this-lt5}
 
 pub returns-in_default : goal.returns-in_default
 returns-in_default c =
