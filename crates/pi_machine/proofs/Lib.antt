@@ -18,6 +18,7 @@ mod Mains
 pub mod ManySteps
 mod NativeCalls
 mod NativeCopies
+mod Rests
 pub mod RowDeeds
 mod RowExamples
 mod RunEnds

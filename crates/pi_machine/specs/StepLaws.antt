@@ -10,7 +10,7 @@ use Rattle.pi_machine.specs.State.{State, Thing, Made, Touched, Frame, Entry, Ca
 use Rattle.pi_machine.specs.Deeds.{Look, OfStatus, OfStatic, OfField, OfItem, OfHeld, OfObject, Deed, Make, Touch, Saw, SetStatic, SetStatus, SetField, SetItem, Print, Start, Push, Pop, SetReg, Jump, GoOn, SetPhase, Pend, Unpend, Hold, do_all}
 use Rattle.pi_machine.specs.Objects.{made_of, OfInstance, OfArray, shape_of, object_at, field_in, item_in}
 use Rattle.pi_machine.specs.Rows.{row}
-use Rattle.pi_machine.specs.Step.{deeds_of, step, after_steps}
+use Rattle.pi_machine.specs.Step.{deeds_of, step, after_steps, at_rest}
 use Rattle.pi_machine.specs.Start.{first_state, start_state}
 use Rattle.pi_machine.specs.Ends.{Setting, Tally, Finish, End, end_of, run_by}
 
@@ -200,6 +200,14 @@ IsWriteInside s f _ = Unit {0}
 abbrev pub RowWritesAreInside : Type 0
 RowWritesAreInside = (p : Program) (s : State) (f : Frame) (units : ℕ) (i : Insn) (deeds : List Deed)
     → row p s f units i ≡ Some deeds → EachDeed (IsWriteInside s f) deeds
+
+-- a state that is at rest has no next step
+abbrev pub RestHasNoStep : Type 0
+RestHasNoStep = (p : Program) (s : State) → at_rest s ≡ true → deeds_of p s ≡ None
+
+-- a state that is ended is at rest
+abbrev pub EndedIsAtRest : Type 0
+EndedIsAtRest = (p : Program) (s : State) (e : End) → end_of p s ≡ Some e → at_rest s ≡ true
 
 -- a state that is ended has no next step
 abbrev pub EndedHasNoStep : Type 0

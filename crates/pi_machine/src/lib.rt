@@ -4,7 +4,7 @@
 
 ghost use Rattle.pi_machine.specs.Laws.{EndIsUnique, RunEndIsUnique, OutputGrows, EndStays};
 ghost use Rattle.pi_machine.specs.StepLaws.{DeedsChangeOnly, StepsKeepStatuses, StartRecordsRun, StatusesStay};
-ghost use Rattle.pi_machine.specs.StepLaws.{RowsKeepWithin, RowWritesAreInside, LooksAreTrue, EndedHasNoStep, LongerRunEndsSame};
+ghost use Rattle.pi_machine.specs.StepLaws.{RowsKeepWithin, RowWritesAreInside, LooksAreTrue, RestHasNoStep, EndedIsAtRest, EndedHasNoStep, LongerRunEndsSame};
 
 /// A run from a state has one end at most.
 pub fn end_is_unique()
@@ -21,7 +21,7 @@ pub fn output_grows()
     ensures { OutputGrows }
 {}
 
-/// A run ends from any of its moments as it does from its beginning.
+/// A run ends so from any of its moments exactly where it ends so from its beginning.
 pub fn end_stays()
     ensures { EndStays }
 {}
@@ -60,6 +60,16 @@ pub fn row_writes_are_inside()
 /// What the deeds of a step tell as read stands so in the state before it.
 pub fn looks_are_true()
     ensures { LooksAreTrue }
+{}
+
+/// A state that is at rest has no next step.
+pub fn rest_has_no_step()
+    ensures { RestHasNoStep }
+{}
+
+/// A state that is ended is at rest.
+pub fn ended_is_at_rest()
+    ensures { EndedIsAtRest }
 {}
 
 /// A state that is ended has no next step.
