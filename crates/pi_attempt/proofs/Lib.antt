@@ -5,4 +5,5 @@ mod Images
 mod Limits
 mod Ahead
 pub mod Once
+mod Stuck
 pub mod Turns

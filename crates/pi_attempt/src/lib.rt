@@ -10,7 +10,7 @@ pub fn each_answered_once()
     ensures { EachAnsweredOnce }
 {}
 
-/// The fold over the selections has a result unless the machine is stuck in an attempt.
+/// The fold over the selections has no result exactly where it comes to an attempt in which the machine is stuck.
 pub fn ends_unless_stuck()
     ensures { EndsUnlessStuck }
 {}
