@@ -5,5 +5,6 @@ mod Images
 mod Limits
 mod Ahead
 pub mod Once
+pub mod Refusals
 mod Stuck
 pub mod Turns

@@ -1,7 +1,9 @@
 -- Laws with their proofs, and worked examples.
+mod ActExamples
 pub mod Changes
 mod Costs
 pub mod Ended
+pub mod FieldNumbers
 mod Five
 mod Handlers
 mod Initialising
@@ -26,5 +28,6 @@ pub mod RunLaws
 pub mod Sample
 pub mod Statuses
 pub mod StepDeeds
+pub mod StepForms
 mod Stuck
 pub mod Truths

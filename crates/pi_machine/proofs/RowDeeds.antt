@@ -6,9 +6,9 @@ use Rattle.pi_model.specs.declared.insn.Insn.TheVariants.{Nop, Move, MoveResult,
 use Rattle.pi_model.specs.Program.{Program}
 use Rattle.pi_model.specs.Values.{Word, Long}
 use Rattle.pi_machine.specs.State.{State, Frame, Nothing}
-use Rattle.pi_machine.specs.Deeds.{Deed}
+use Rattle.pi_machine.specs.Deeds.{Deed, Jump}
 use Rattle.pi_machine.specs.Rows.{row}
-use Rattle.pi_machine.proofs.RowDeeds.Words.{AllDeeds, RowKinds, the_deeds, each_fails, these, goes, sets}
+use Rattle.pi_machine.proofs.RowDeeds.Words.{Does, RowLists, RowKinds, of_each, on_some, each_fails, these, goes, sets}
 use Rattle.pi_machine.proofs.RowDeeds.Numbers.{move_deeds, move_result_deeds, move_exception_deeds, returning, return_deeds, const_string_deeds, const_class_deeds, unary_deeds, binary_deeds, binary_literal_deeds, compare_long_deeds, if_deeds, if_zero_deeds, switch_deeds}
 use Rattle.pi_machine.proofs.RowDeeds.Objects.{new_instance_deeds, monitor_deeds, check_cast_deeds, instance_of_deeds, throw_deeds, iget_deeds, iput_deeds, sget_deeds, sput_deeds, array_length_deeds, new_array_deeds, filled_row_deeds, fill_array_deeds, aget_deeds, aput_deeds}
 use Rattle.pi_machine.proofs.RowDeeds.Calls.{invoke_deeds}
@@ -19,41 +19,46 @@ pub mod Objects
 pub mod Natives
 pub mod Calls
 
-pub row_deeds : {p : Program} {s : State} {f : Frame} {P : Deed → Type 0} (k : RowKinds p s f P) (units : ℕ) (i : Insn) → AllDeeds P (row p s f units i)
-row_deeds k units Nop = goes k units
-row_deeds k units (Move kd a b) = move_deeds k units kd a b
-row_deeds k units (MoveResult kd a) = move_result_deeds k units _ kd a refl
-row_deeds k units (MoveException a) = move_exception_deeds k units _ a refl
-row_deeds k units ReturnVoid = returning k Nothing
-row_deeds k units (Return kd a) = return_deeds k kd a
-row_deeds k units (Const a v) = sets k units a (Word v)
-row_deeds k units (ConstWide a v) = sets k units a (Long v)
-row_deeds k units (ConstString a n) = const_string_deeds k units a n
-row_deeds k units (ConstClass a t) = const_class_deeds k units a t
-row_deeds k units (Monitor a) = monitor_deeds k units a
-row_deeds k units (CheckCast a t) = check_cast_deeds k units a t
-row_deeds k units (InstanceOf a b t) = instance_of_deeds k units a b t
-row_deeds k units (ArrayLength a b) = array_length_deeds k units a b
-row_deeds k units (NewInstance a t) = new_instance_deeds k units a t
-row_deeds k units (NewArray a b t) = new_array_deeds k units a b t
-row_deeds k units (Filled t regs) = filled_row_deeds k units t regs
-row_deeds k units (FillArray a width items) = fill_array_deeds k units a width items
-row_deeds k units (Throw a) = throw_deeds k a
-row_deeds k units (Goto to) = these (k.jump to, tt)
-row_deeds k units (Switch a cases) = switch_deeds k units a cases
-row_deeds k units (CmpLong a b c) = compare_long_deeds k units a b c
-row_deeds k units (If cond a b to) = if_deeds k units cond a b to
-row_deeds k units (IfZ cond a to) = if_zero_deeds k units cond a to
-row_deeds k units (Aget kd a b c) = aget_deeds k units kd a b c
-row_deeds k units (Aput kd a b c) = aput_deeds k units kd a b c
-row_deeds k units (Iget kd a b r) = iget_deeds k units kd a b r
-row_deeds k units (Iput kd a b r) = iput_deeds k units kd a b r
-row_deeds k units (Sget kd a r) = sget_deeds k units kd a r
-row_deeds k units (Sput kd a r) = sput_deeds k units kd a r
-row_deeds k units (Invoke how m regs) = invoke_deeds k units how m regs
-row_deeds k units (Unary op a b) = unary_deeds k units op a b
-row_deeds k units (Binary op a b c) = binary_deeds k units op a b c
-row_deeds k units (BinaryLit op a b v) = binary_literal_deeds k units op a b v
+module _ {p : Program} {s : State} {f : Frame} {Ends : List Deed → Type 0} {After : ℕ → List Deed → Type 0} {All : List Deed → Type 0} (k : RowLists p s f Ends After All) where
+  pub row_lists : (units : ℕ) (i : Insn) → Does All (row p s f units i)
+  row_lists units Nop = goes k units
+  row_lists units (Move kd a b) = move_deeds k units kd a b
+  row_lists units (MoveResult kd a) = move_result_deeds k units _ kd a refl
+  row_lists units (MoveException a) = move_exception_deeds k units _ a refl
+  row_lists units ReturnVoid = returning k Nothing
+  row_lists units (Return kd a) = return_deeds k kd a
+  row_lists units (Const a v) = sets k units a (Word v)
+  row_lists units (ConstWide a v) = sets k units a (Long v)
+  row_lists units (ConstString a n) = const_string_deeds k units a n
+  row_lists units (ConstClass a t) = const_class_deeds k units a t
+  row_lists units (Monitor a) = monitor_deeds k units a
+  row_lists units (CheckCast a t) = check_cast_deeds k units a t
+  row_lists units (InstanceOf a b t) = instance_of_deeds k units a b t
+  row_lists units (ArrayLength a b) = array_length_deeds k units a b
+  row_lists units (NewInstance a t) = new_instance_deeds k units a t
+  row_lists units (NewArray a b t) = new_array_deeds k units a b t
+  row_lists units (Filled t regs) = filled_row_deeds k units t regs
+  row_lists units (FillArray a width items) = fill_array_deeds k units a width items
+  row_lists units (Throw a) = throw_deeds k a
+  row_lists units (Goto to) = these (k.rest (Jump to ∷ []) (k.jump to [] k.none))
+  row_lists units (Switch a cases) = switch_deeds k units a cases
+  row_lists units (CmpLong a b c) = compare_long_deeds k units a b c
+  row_lists units (If cond a b to) = if_deeds k units cond a b to
+  row_lists units (IfZ cond a to) = if_zero_deeds k units cond a to
+  row_lists units (Aget kd a b c) = aget_deeds k units kd a b c
+  row_lists units (Aput kd a b c) = aput_deeds k units kd a b c
+  row_lists units (Iget kd a b r) = iget_deeds k units kd a b r
+  row_lists units (Iput kd a b r) = iput_deeds k units kd a b r
+  row_lists units (Sget kd a r) = sget_deeds k units kd a r
+  row_lists units (Sput kd a r) = sput_deeds k units kd a r
+  row_lists units (Invoke how m regs) = invoke_deeds k units how m regs
+  row_lists units (Unary op a b) = unary_deeds k units op a b
+  row_lists units (Binary op a b c) = binary_deeds k units op a b c
+  row_lists units (BinaryLit op a b v) = binary_literal_deeds k units op a b v
+
+-- a property of each deed of a row
+pub row_deeds : {p : Program} {s : State} {f : Frame} {P : Deed → Type 0} (k : RowKinds p s f P) (units : ℕ) (i : Insn) → Does (EachDeed P) (row p s f units i)
+row_deeds k units i = row_lists (of_each k) units i
 
 -- no row does what is left to initialisation, to the start and to the way of a throwable
 within_rows : (p : Program) (s : State) (f : Frame) → RowKinds p s f (λ d. is_beyond_rows d ≡ false)
@@ -79,8 +84,7 @@ within_rows p s f = record {
 
 pub rows_keep_within : RowsKeepWithin
 rows_keep_within = λ p s f units i deeds e.
-    subst (λ ds. NoneOf is_beyond_rows (the_deeds ds)) e
-    (each_fails is_beyond_rows (the_deeds (row p s f units i)) (row_deeds (within_rows p s f) units i).each)
+    each_fails is_beyond_rows deeds (on_some deeds e (row_deeds (within_rows p s f) units i))
 
 -- no write of a row is lost
 writes_there : (p : Program) (s : State) (f : Frame) → RowKinds p s f (IsWriteInside s f)
@@ -106,4 +110,4 @@ writes_there p s f = record {
 
 pub row_writes_are_inside : RowWritesAreInside
 row_writes_are_inside = λ p s f units i deeds e.
-    subst (λ ds. EachDeed (IsWriteInside s f) (the_deeds ds)) e (row_deeds (writes_there p s f) units i).each
+    on_some deeds e (row_deeds (writes_there p s f) units i)

@@ -10,7 +10,9 @@ pub mod Natives
 pub mod Rows
 pub mod Initialisation
 pub mod Step
+pub mod Acts
 pub mod Start
 pub mod Ends
 pub mod Laws
 pub mod StepLaws
+pub mod StepForms

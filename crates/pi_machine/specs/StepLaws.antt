@@ -5,7 +5,8 @@ use Rattle.std.specs.List.{list_any}
 use Rattle.pi_model.specs.declared.reason.ClassState.{ClassState}
 use Rattle.pi_model.specs.declared.reason.ClassState.TheVariants.{Fresh, InProgress, Done, Erroneous}
 use Rattle.pi_model.specs.declared.insn.Insn.{Insn}
-use Rattle.pi_model.specs.Program.{Program}
+use Rattle.pi_model.specs.Program.{Program, all_fields}
+use Rattle.pi_model.specs.Search.{in_class, field_of}
 use Rattle.pi_machine.specs.State.{State, Thing, Made, Touched, Frame, Entry, Call, Record}
 use Rattle.pi_machine.specs.Deeds.{Look, OfStatus, OfStatic, OfField, OfItem, OfHeld, OfObject, Deed, Make, Touch, Saw, SetStatic, SetStatus, SetField, SetItem, Print, Start, Push, Pop, SetReg, Jump, GoOn, SetPhase, Pend, Unpend, Hold, do_all}
 use Rattle.pi_machine.specs.Objects.{made_of, OfInstance, OfArray, shape_of, object_at, field_in, item_in}
@@ -187,6 +188,12 @@ pub record HasItem (s : State) (n place : ℕ) : Type 0 where
   pub items : ℕ
   pub is : option_map shape_of (made_of (slice_get s.things n)) ≡ Some (OfArray ty items)
   pub within : place < items
+
+-- a number is that of a field of a class
+pub record IsFieldOf (p : Program) (c f : ℕ) : Type 0 where
+  pub place : ℕ
+  pub member : field_of p f ≡ Some (in_class c place)
+  pub below : f < all_fields p
 
 -- what a deed of an instruction writes is there to be written: the static, the field, the element, the register
 abbrev pub IsWriteInside : State → Frame → Deed → Type 0

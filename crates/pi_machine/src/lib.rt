@@ -5,6 +5,7 @@
 ghost use Rattle.pi_machine.specs.Laws.{EndIsUnique, RunEndIsUnique, OutputGrows, EndStays};
 ghost use Rattle.pi_machine.specs.StepLaws.{DeedsChangeOnly, StepsKeepStatuses, StartRecordsRun, StatusesStay};
 ghost use Rattle.pi_machine.specs.StepLaws.{RowsKeepWithin, RowWritesAreInside, LooksAreTrue, RestHasNoStep, EndedIsAtRest, EndedHasNoStep, LongerRunEndsSame};
+ghost use Rattle.pi_machine.specs.StepForms.{WritesHaveOneTarget, StaticReadsHaveOneClass, StepsMakeFirst};
 
 /// A run from a state has one end at most.
 pub fn end_is_unique()
@@ -60,6 +61,21 @@ pub fn row_writes_are_inside()
 /// What the deeds of a step tell as read stands so in the state before it.
 pub fn looks_are_true()
     ensures { LooksAreTrue }
+{}
+
+/// All writes of a step go to one object, or to statics of one class.
+pub fn writes_have_one_target()
+    ensures { WritesHaveOneTarget }
+{}
+
+/// All statics that a step reads are of one class.
+pub fn static_reads_have_one_class()
+    ensures { StaticReadsHaveOneClass }
+{}
+
+/// A step makes one object at most, before it touches any literal.
+pub fn steps_make_first()
+    ensures { StepsMakeFirst }
 {}
 
 /// A state that is at rest has no next step.
