@@ -1,18 +1,17 @@
 -- The attempt to initialise one class ahead of time: a run of the machine that enters the class, watched before each
 -- further step for what an image could not keep. docs/transaction.md states the same rules. All of it is our own.
-use Rattle.std.specs.Prelude.{ℕ, zero, suc, ◌+◌, ◌-◌, ◌==◌, ◌&&◌, not, nat_lt, List, [], ◌∷◌, sum_by, slice_get, Option, Some, None, Bool, true, false, if◌then◌else◌, option_map, option_and_then}
+use Rattle.std.specs.Prelude.{ℕ, zero, suc, ◌+◌, ◌-◌, ◌==◌, ◌&&◌, not, nat_lt, List, [], ◌∷◌, slice_get, Option, Some, None, Bool, true, false, if◌then◌else◌, option_map, option_and_then}
 use Rattle.std.specs.List.{list_any}
 use Rattle.pi_model.specs.declared.reason.ClassState.TheVariants.{Erroneous}
 use Rattle.pi_model.specs.declared.describe.ClassDesc.{ClassDesc}
 use Rattle.pi_model.specs.Program.{Program}
-use Rattle.pi_model.specs.Values.{Num, Text}
+use Rattle.pi_model.specs.Values.{Num}
 use Rattle.pi_model.specs.Search.{class_at, or_else}
-use Rattle.pi_model.specs.Sizes.{object_bytes}
-use Rattle.pi_model.specs.Texts.{units_of}
 use Rattle.pi_machine.specs.State.{State, Thing, Made, Touched, Entry}
 use Rattle.pi_machine.specs.Deeds.{Deed, Saw, OfStatic, Writes, SetStatic, SetStatus, do_all}
 use Rattle.pi_machine.specs.Objects.{shape_at}
 use Rattle.pi_machine.specs.Natives.{type_name_of}
+use Rattle.pi_machine.specs.Images.{image_bytes}
 use Rattle.pi_machine.specs.Acts.{first_of, entered_by, field_class, impure_call}
 use Rattle.pi_machine.specs.Initialisation.{enters}
 use Rattle.pi_machine.specs.Operands.{Deeds}
@@ -76,17 +75,6 @@ other_write p c _ = None
 abbrev pub other_read : Program → ℕ → Deed → Option ℕ
 other_read p c (Saw (OfStatic f v)) = if_other c (field_class p f)
 other_read p c _ = None
-
--- the size of a thing that is for the image of a file
-abbrev pub bytes_for : Program → ℕ → Thing → ℕ
-bytes_for p file (Made (Some other) o) = if other == file then object_bytes p o else 0
-bytes_for p file (Made None o) = 0
-bytes_for p file (Touched (Some other) n) = if other == file then object_bytes p (Text (units_of p n)) else 0
-bytes_for p file (Touched None n) = 0
-
--- the object bytes of the image of a file
-abbrev pub image_bytes : Program → ℕ → State → ℕ
-image_bytes p file s = sum_by (bytes_for p file) s.things
 
 -- a throwable reaches the record of a class, which is left with the class erroneous
 abbrev pub leaves_record : ℕ → Deed → Bool

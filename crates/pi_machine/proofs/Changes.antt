@@ -21,7 +21,7 @@ get_set_other (x ∷ xs) (suc i) y (suc j) e = get_set_other xs i y j (λ q. e (
 pub get_set_apart : {A : Type 0} (xs : List A) (i : ℕ) (y : A) (j : ℕ) → (j == i) ≡ false → slice_get (slice_set xs i y) j ≡ slice_get xs j
 get_set_apart xs i y j e = get_set_other xs i y j (eqb-false j i e)
 
-length_set : {A : Type 0} (xs : List A) (i : ℕ) (y : A) → length (slice_set xs i y) ≡ length xs
+pub length_set : {A : Type 0} (xs : List A) (i : ℕ) (y : A) → length (slice_set xs i y) ≡ length xs
 length_set [] i y = refl
 length_set (x ∷ xs) zero y = refl
 length_set (x ∷ xs) (suc i) y = ap (λ n. suc n) (length_set xs i y)

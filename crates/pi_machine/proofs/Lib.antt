@@ -7,6 +7,7 @@ pub mod FieldNumbers
 mod Five
 mod Handlers
 mod Initialising
+pub mod Images
 mod InsnArrays
 mod InsnBranches
 mod InsnCalls
@@ -20,6 +21,7 @@ mod Mains
 pub mod ManySteps
 mod NativeCalls
 mod NativeCopies
+pub mod Readings
 mod Rests
 pub mod RowDeeds
 mod RowExamples

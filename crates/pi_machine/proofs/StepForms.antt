@@ -1,16 +1,16 @@
 -- The form of the list of deeds of a step: one target of its writes, one class of the statics that it reads, and one object
 -- made at most, before any literal is touched.
-use Rattle.std.proofs.Common.{◌≡◌, ℕ, List, [], ◌∷◌, Some, Bool, true, false, not, option_map, refl, ap}
+use Rattle.std.proofs.Common.{◌≡◌, ℕ, List, [], ◌∷◌, Some, Bool, true, false, not, option_map, refl, ap, ◌<◌, length, arith}
 use Rattle.std.specs.List.{list_any}
-use Rattle.pi_model.specs.Program.{Program}
+use Rattle.pi_model.specs.Program.{Program, all_fields}
 use Rattle.pi_model.specs.Search.{Member}
 use Rattle.pi_machine.specs.State.{State, Frame}
 use Rattle.pi_machine.specs.Deeds.{Deed, Make, Touch, Saw, Reads, Writes, SetStatic, SetStatus, SetField, SetItem, CallNative, Print, Start, Push, Pop, SetReg, Jump, GoOn, SetPhase, Pend, Unpend, Hold}
 use Rattle.pi_machine.specs.Acts.{field_class}
 use Rattle.pi_machine.specs.StepLaws.{EachDeed, IsFieldOf}
-use Rattle.pi_machine.specs.StepForms.{Target, StaticsOf, ThingAt, WritesTo, WritesHaveOneTarget, ReadsOf, StaticReadsHaveOneClass, makes, makes_first, StepsMakeFirst}
-use Rattle.pi_machine.proofs.RowDeeds.Words.{RowLists, on_some}
-use Rattle.pi_machine.proofs.StepDeeds.{StepLists, step_lists}
+use Rattle.pi_machine.specs.StepForms.{Target, StaticsOf, ThingAt, WritesTo, WritesHaveOneTarget, ReadsOf, StaticReadsHaveOneClass, makes, makes_first, StepsMakeFirst, IsPlaceThere, StepWritesAreInside}
+use Rattle.pi_machine.proofs.RowDeeds.Words.{RowKinds, RowLists, on_some}
+use Rattle.pi_machine.proofs.StepDeeds.{StepKinds, StepLists, step_deeds, step_lists}
 
 -- the class that declares a field of a class
 pub class_is : (p : Program) (c f : ℕ) → IsFieldOf p c f → field_class p f ≡ Some c
@@ -206,3 +206,42 @@ step_makes p s = record {
 
 pub steps_make_first : StepsMakeFirst
 steps_make_first = λ p s deeds e. on_some deeds e (step_lists (step_makes p s))
+
+-- writes go to what is there
+row_places : (p : Program) (s : State) (f : Frame) → RowKinds p s f (IsPlaceThere s)
+row_places p s f = record {
+  make = λ o. tt;
+  touch = λ n. tt;
+  saw = λ look e. tt;
+  reads = λ n. tt;
+  writes = λ n. tt;
+  set_static = λ field v e. e;
+  set_field = λ n i v e. e;
+  set_item = λ n i v e. e;
+  call_native = λ m. tt;
+  print = λ bytes. tt;
+  push_call = λ g. tt;
+  pop = tt;
+  set_reg = λ a v e. tt;
+  jump = λ to. tt;
+  past_call = tt;
+  pend = λ r. tt;
+  hold = λ h. tt;
+}
+
+static_there : (p : Program) (s : State) (c field : ℕ) → length s.statics ≡ all_fields p → IsFieldOf p c field → field < length s.statics
+static_there p s c field full h = let below : field < all_fields p = h.below in omega (arith, below, full)
+
+step_places : (p : Program) (s : State) → length s.statics ≡ all_fields p → StepKinds p s (IsPlaceThere s)
+step_places p s full = record {
+  rows = λ f. row_places p s f;
+  first_static = λ c field v e. static_there p s c field full e;
+  set_status = λ c status. tt;
+  start = tt;
+  push = λ e. tt;
+  set_phase = λ phase. tt;
+  unpend = tt;
+}
+
+pub step_writes_are_inside : StepWritesAreInside
+step_writes_are_inside = λ p s deeds full e. on_some deeds e (step_deeds (step_places p s full))

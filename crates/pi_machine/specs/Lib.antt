@@ -9,6 +9,7 @@ pub mod Printed
 pub mod Natives
 pub mod Rows
 pub mod Initialisation
+pub mod Images
 pub mod Step
 pub mod Acts
 pub mod Start
@@ -16,3 +17,4 @@ pub mod Ends
 pub mod Laws
 pub mod StepLaws
 pub mod StepForms
+pub mod Reading

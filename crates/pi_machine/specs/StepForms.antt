@@ -1,13 +1,13 @@
 -- The form of the list of deeds of a step, as statements: what it writes is one target, what it reads of statics is of one
 -- class, and it makes one object at most, before any literal is touched.
-use Rattle.std.specs.Prelude.{◌≡◌, ℕ, List, [], ◌∷◌, Option, Some, None, Bool, true, false, not, option_map}
+use Rattle.std.specs.Prelude.{◌≡◌, ℕ, ◌<◌, length, List, [], ◌∷◌, Option, Some, None, Bool, true, false, not, option_map}
 use Rattle.std.specs.List.{list_any}
-use Rattle.pi_model.specs.Program.{Program}
+use Rattle.pi_model.specs.Program.{Program, all_fields}
 use Rattle.pi_machine.specs.State.{State}
 use Rattle.pi_machine.specs.Deeds.{Deed, Make, Touch, Saw, OfStatic, Writes, SetStatic, SetField, SetItem}
 use Rattle.pi_machine.specs.Acts.{field_class, read_by}
 use Rattle.pi_machine.specs.Step.{deeds_of}
-use Rattle.pi_machine.specs.StepLaws.{EachDeed}
+use Rattle.pi_machine.specs.StepLaws.{EachDeed, HasField, HasItem}
 
 -- what a step writes: statics of a class, or the thing at a place
 pub data Target : Type 0 where
@@ -50,6 +50,18 @@ ReadsOf p c d = reads_static d ≡ true → read_by p d ≡ Some c
 -- all statics that a step reads are of one class
 abbrev pub StaticReadsHaveOneClass : Type 0
 StaticReadsHaveOneClass = (p : Program) (s : State) (deeds : List Deed) → deeds_of p s ≡ Some deeds → (c : ℕ) × EachDeed (ReadsOf p c) deeds
+
+-- a static, a field or an element that a deed writes is there
+abbrev pub IsPlaceThere : State → Deed → Type 0
+IsPlaceThere s (SetStatic field v) = field < length s.statics
+IsPlaceThere s (SetField n place v) = HasField s n place
+IsPlaceThere s (SetItem n place v) = HasItem s n place
+IsPlaceThere s _ = Unit {0}
+
+-- no write of a step to a static, a field or an element is lost, where there is a static for each field of the program
+abbrev pub StepWritesAreInside : Type 0
+StepWritesAreInside = (p : Program) (s : State) (deeds : List Deed) → length s.statics ≡ all_fields p → deeds_of p s ≡ Some deeds
+    → EachDeed (IsPlaceThere s) deeds
 
 -- an object is made
 abbrev pub makes : Deed → Bool

@@ -5,7 +5,9 @@
 ghost use Rattle.pi_machine.specs.Laws.{EndIsUnique, RunEndIsUnique, OutputGrows, EndStays};
 ghost use Rattle.pi_machine.specs.StepLaws.{DeedsChangeOnly, StepsKeepStatuses, StartRecordsRun, StatusesStay};
 ghost use Rattle.pi_machine.specs.StepLaws.{RowsKeepWithin, RowWritesAreInside, LooksAreTrue, RestHasNoStep, EndedIsAtRest, EndedHasNoStep, LongerRunEndsSame};
-ghost use Rattle.pi_machine.specs.StepForms.{WritesHaveOneTarget, StaticReadsHaveOneClass, StepsMakeFirst};
+ghost use Rattle.pi_machine.specs.StepForms.{WritesHaveOneTarget, StaticReadsHaveOneClass, StepsMakeFirst, StepWritesAreInside};
+ghost use Rattle.pi_machine.specs.Images.{ImageBytesGrow};
+ghost use Rattle.pi_machine.specs.Reading.{ThingsStandBetween, ReferencesGoOnAlike};
 
 /// A run from a state has one end at most.
 pub fn end_is_unique()
@@ -76,6 +78,26 @@ pub fn static_reads_have_one_class()
 /// A step makes one object at most, before it touches any literal.
 pub fn steps_make_first()
     ensures { StepsMakeFirst }
+{}
+
+/// No write of a step to a static, a field or an element is lost, where there is a static for each field of the program.
+pub fn step_writes_are_inside()
+    ensures { StepWritesAreInside }
+{}
+
+/// After deeds the bytes of an image are what they were, and the bytes of what was made and first touched.
+pub fn image_bytes_grow()
+    ensures { ImageBytesGrow }
+{}
+
+/// A thing stands between those before it and those behind it, and a change of it changes no other.
+pub fn things_stand_between()
+    ensures { ThingsStandBetween }
+{}
+
+/// Where a row goes on alike with null and with things, it went on with a reference operand.
+pub fn references_go_on_alike()
+    ensures { ReferencesGoOnAlike }
 {}
 
 /// A state that is at rest has no next step.
