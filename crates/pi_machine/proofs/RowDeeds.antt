@@ -1,14 +1,17 @@
 -- What holds of all deeds of the row of an instruction: a property of every kind of deed that rows do holds of each deed
 -- of each row.
-use Rattle.std.proofs.Common.{◌≡◌, ℕ, List, [], ◌∷◌, Option, Some, None, Bool, true, false, refl, subst}
+use Rattle.std.proofs.Common.{◌≡◌, ℕ, List, [], ◌∷◌, Option, Some, None, Bool, true, false, refl, subst, map, ◌==◌}
 use Rattle.pi_model.specs.declared.insn.Insn.{Insn}
 use Rattle.pi_model.specs.declared.insn.Insn.TheVariants.{Nop, Move, MoveResult, MoveException, ReturnVoid, Return, Const, ConstWide, ConstString, ConstClass, Monitor, CheckCast, InstanceOf, ArrayLength, NewInstance, NewArray, Filled, FillArray, Throw, Goto, Switch, CmpLong, If, IfZ, Aget, Aput, Iget, Iput, Sget, Sput, Invoke, Unary, Binary, BinaryLit}
 use Rattle.pi_model.specs.Program.{Program}
-use Rattle.pi_model.specs.Values.{Word, Long}
+use Rattle.pi_model.specs.Values.{Ref, Value, Word, Long, Object}
+use Rattle.pi_model.specs.Sizes.{width_of}
+use Rattle.pi_machine.specs.Rows.Arrays.{item_value}
+use Rattle.pi_machine.specs.Sound.{EachOf}
 use Rattle.pi_machine.specs.State.{State, Frame, Nothing}
 use Rattle.pi_machine.specs.Deeds.{Deed, Jump}
 use Rattle.pi_machine.specs.Rows.{row}
-use Rattle.pi_machine.proofs.RowDeeds.Words.{Does, RowLists, RowKinds, of_each, on_some, each_fails, these, goes, sets}
+use Rattle.pi_machine.proofs.RowDeeds.Words.{Does, RowFacts, ValuedLists, RowLists, RowKinds, AnyValue, any_facts, each_any, valued, of_each, on_some, each_fails, these, goes, sets}
 use Rattle.pi_machine.proofs.RowDeeds.Numbers.{move_deeds, move_result_deeds, move_exception_deeds, returning, return_deeds, const_string_deeds, const_class_deeds, unary_deeds, binary_deeds, binary_literal_deeds, compare_long_deeds, if_deeds, if_zero_deeds, switch_deeds}
 use Rattle.pi_machine.proofs.RowDeeds.Objects.{new_instance_deeds, monitor_deeds, check_cast_deeds, instance_of_deeds, throw_deeds, iget_deeds, iput_deeds, sget_deeds, sput_deeds, array_length_deeds, new_array_deeds, filled_row_deeds, fill_array_deeds, aget_deeds, aput_deeds}
 use Rattle.pi_machine.proofs.RowDeeds.Calls.{invoke_deeds}
@@ -19,42 +22,67 @@ pub mod Objects
 pub mod Natives
 pub mod Calls
 
-module _ {p : Program} {s : State} {f : Frame} {Ends : List Deed → Type 0} {After : ℕ → List Deed → Type 0} {All : List Deed → Type 0} (k : RowLists p s f Ends After All) where
-  pub row_lists : (units : ℕ) (i : Insn) → Does All (row p s f units i)
-  row_lists units Nop = goes k units
-  row_lists units (Move kd a b) = move_deeds k units kd a b
-  row_lists units (MoveResult kd a) = move_result_deeds k units _ kd a refl
-  row_lists units (MoveException a) = move_exception_deeds k units _ a refl
-  row_lists units ReturnVoid = returning k Nothing
-  row_lists units (Return kd a) = return_deeds k kd a
-  row_lists units (Const a v) = sets k units a (Word v)
-  row_lists units (ConstWide a v) = sets k units a (Long v)
-  row_lists units (ConstString a n) = const_string_deeds k units a n
-  row_lists units (ConstClass a t) = const_class_deeds k units a t
-  row_lists units (Monitor a) = monitor_deeds k units a
-  row_lists units (CheckCast a t) = check_cast_deeds k units a t
-  row_lists units (InstanceOf a b t) = instance_of_deeds k units a b t
-  row_lists units (ArrayLength a b) = array_length_deeds k units a b
-  row_lists units (NewInstance a t) = new_instance_deeds k units a t
-  row_lists units (NewArray a b t) = new_array_deeds k units a b t
-  row_lists units (Filled t regs) = filled_row_deeds k units t regs
-  row_lists units (FillArray a width items) = fill_array_deeds k units a width items
-  row_lists units (Throw a) = throw_deeds k a
-  row_lists units (Goto to) = these (k.rest (Jump to ∷ []) (k.jump to [] k.none))
-  row_lists units (Switch a cases) = switch_deeds k units a cases
-  row_lists units (CmpLong a b c) = compare_long_deeds k units a b c
-  row_lists units (If cond a b to) = if_deeds k units cond a b to
-  row_lists units (IfZ cond a to) = if_zero_deeds k units cond a to
-  row_lists units (Aget kd a b c) = aget_deeds k units kd a b c
-  row_lists units (Aput kd a b c) = aput_deeds k units kd a b c
-  row_lists units (Iget kd a b r) = iget_deeds k units kd a b r
-  row_lists units (Iput kd a b r) = iput_deeds k units kd a b r
-  row_lists units (Sget kd a r) = sget_deeds k units kd a r
-  row_lists units (Sput kd a r) = sput_deeds k units kd a r
-  row_lists units (Invoke how m regs) = invoke_deeds k units how m regs
-  row_lists units (Unary op a b) = unary_deeds k units op a b
-  row_lists units (Binary op a b c) = binary_deeds k units op a b c
-  row_lists units (BinaryLit op a b v) = binary_literal_deeds k units op a b v
+-- the constants of an instruction as values
+abbrev pub OnConstants : (Value → Type 0) → Insn → Type 0
+OnConstants V (Const a v) = V (Word v)
+OnConstants V (ConstWide a v) = V (Long v)
+OnConstants V (BinaryLit op a b v) = V (Word v)
+OnConstants V (FillArray a width items) = (letter : ℕ) → (width_of letter == width) ≡ true → EachOf V (map (item_value letter) items)
+OnConstants V _ = Unit {0}
+
+module _ {p : Program} {s : State} {f : Frame} {V : Option Ref → Value → Type 0} {O : Object → Type 0} {U : List ℕ → Type 0}
+    {Ends : Option Ref → List Deed → Type 0} {After : ℕ → List Deed → Type 0} {All : List Deed → Type 0}
+    (g : RowFacts p s f V O U) (k : ValuedLists p s f V O Ends After All) where
+  pub valued_rows : (units : ℕ) (i : Insn) → OnConstants (V None) i → Does All (row p s f units i)
+  valued_rows units Nop cs = goes g k units
+  valued_rows units (Move kd a b) cs = move_deeds g k units kd a b
+  valued_rows units (MoveResult kd a) cs = move_result_deeds g k units _ kd a refl
+  valued_rows units (MoveException a) cs = move_exception_deeds g k units _ a refl
+  valued_rows units ReturnVoid cs = returning g k Nothing tt
+  valued_rows units (Return kd a) cs = return_deeds g k kd a
+  valued_rows units (Const a v) cs = sets g k units a (Word v) cs
+  valued_rows units (ConstWide a v) cs = sets g k units a (Long v) cs
+  valued_rows units (ConstString a n) cs = const_string_deeds g k units a n
+  valued_rows units (ConstClass a t) cs = const_class_deeds g k units a t
+  valued_rows units (Monitor a) cs = monitor_deeds g k units a
+  valued_rows units (CheckCast a t) cs = check_cast_deeds g k units a t
+  valued_rows units (InstanceOf a b t) cs = instance_of_deeds g k units a b t
+  valued_rows units (ArrayLength a b) cs = array_length_deeds g k units a b
+  valued_rows units (NewInstance a t) cs = new_instance_deeds g k units a t
+  valued_rows units (NewArray a b t) cs = new_array_deeds g k units a b t
+  valued_rows units (Filled t regs) cs = filled_row_deeds g k units t regs
+  valued_rows units (FillArray a width items) cs = fill_array_deeds g k units a width items cs
+  valued_rows units (Throw a) cs = throw_deeds g k a
+  valued_rows units (Goto to) cs = these (k.rest (Jump to ∷ []) (k.jump None to [] (k.none None)))
+  valued_rows units (Switch a cases) cs = switch_deeds g k units a cases
+  valued_rows units (CmpLong a b c) cs = compare_long_deeds g k units a b c
+  valued_rows units (If cond a b to) cs = if_deeds g k units cond a b to
+  valued_rows units (IfZ cond a to) cs = if_zero_deeds g k units cond a to
+  valued_rows units (Aget kd a b c) cs = aget_deeds g k units kd a b c
+  valued_rows units (Aput kd a b c) cs = aput_deeds g k units kd a b c
+  valued_rows units (Iget kd a b r) cs = iget_deeds g k units kd a b r
+  valued_rows units (Iput kd a b r) cs = iput_deeds g k units kd a b r
+  valued_rows units (Sget kd a r) cs = sget_deeds g k units kd a r
+  valued_rows units (Sput kd a r) cs = sput_deeds g k units kd a r
+  valued_rows units (Invoke how m regs) cs = invoke_deeds g k units how m regs
+  valued_rows units (Unary op a b) cs = unary_deeds g k units op a b
+  valued_rows units (Binary op a b c) cs = binary_deeds g k units op a b c
+  valued_rows units (BinaryLit op a b v) cs = binary_literal_deeds g k units op a b v cs
+
+-- nothing is asked of constants
+any_items : (letter : ℕ) (items : List ℕ) → EachOf (AnyValue None) (map (item_value letter) items)
+any_items letter items = each_any (map (item_value letter) items)
+
+pub any_constants : (i : Insn) → OnConstants (AnyValue None) i
+any_constants (Const a v) = tt
+any_constants (ConstWide a v) = tt
+any_constants (BinaryLit op a b v) = tt
+any_constants (FillArray a width items) = λ letter e. any_items letter items
+any_constants _ = tt
+
+pub row_lists : {p : Program} {s : State} {f : Frame} {Ends : List Deed → Type 0} {After : ℕ → List Deed → Type 0} {All : List Deed → Type 0}
+    (k : RowLists p s f Ends After All) (units : ℕ) (i : Insn) → Does All (row p s f units i)
+row_lists {p} {s} {f} k units i = valued_rows (any_facts p s f) (valued k) units i (any_constants i)
 
 -- a property of each deed of a row
 pub row_deeds : {p : Program} {s : State} {f : Frame} {P : Deed → Type 0} (k : RowKinds p s f P) (units : ℕ) (i : Insn) → Does (EachDeed P) (row p s f units i)

@@ -18,3 +18,4 @@ pub mod Laws
 pub mod StepLaws
 pub mod StepForms
 pub mod Reading
+pub mod Sound

@@ -1,6 +1,8 @@
 -- The deeds of calls.
-use Rattle.std.proofs.Common.{ℕ, List, [], ◌∷◌, ◌++◌, Option, Some, None, option_map}
-use Rattle.std.specs.Prelude.{option_and_then}
+use Rattle.std.proofs.Common.{◌≡◌, ℕ, zero, suc, length, replicate, Bool, true, false, refl, subst, arith, List, [], ◌∷◌, ◌++◌, Option, Some, None, option_map}
+use Rattle.std.specs.Prelude.{option_and_then, ◌==◌, ◌-◌, if◌then◌else◌}
+use Rattle.pi_model.specs.declared.describe.Code.{Code}
+use Rattle.pi_machine.specs.Sound.{EachOf}
 use Rattle.pi_model.specs.declared.insn.MethodRef.{MethodRef}
 use Rattle.pi_model.specs.declared.insn.How.{How}
 use Rattle.pi_model.specs.declared.insn.How.TheVariants.{Virtual, Super, Direct, Static, Interface}
@@ -8,7 +10,7 @@ use Rattle.pi_model.specs.Program.{Program}
 use Rattle.pi_model.specs.Known.{Known, JavaObject, NullPointer, AbstractMethod, IncompatibleClassChange, descriptor_of}
 use Rattle.pi_model.specs.Texts.{same_text}
 use Rattle.pi_model.specs.Search.{Member, class_named, method_at, method_no_of, superclass_of, find_method}
-use Rattle.pi_model.specs.Values.{Ref, Value, Object}
+use Rattle.pi_model.specs.Values.{Ref, Value, Word, Object}
 use Rattle.pi_model.specs.Fields.{new_instance}
 use Rattle.pi_machine.specs.State.{State, Frame, Call}
 use Rattle.pi_machine.specs.Deeds.{Deed, CallNative, Hold, Make, Pend, Push}
@@ -18,70 +20,97 @@ use Rattle.pi_machine.specs.Throwing.{throws, next_made, is_of_type}
 use Rattle.pi_machine.specs.Codes.{code_of}
 use Rattle.pi_machine.specs.Natives.{Native, Outcome, Gives, Fails, native_does}
 use Rattle.pi_machine.specs.Rows.Calls.{argument_kinds, arguments_fit, entry_frame, calls_frame, native_ends, native_at, is_abstract, enters_method, call_row, dispatch_from, receiver_class, virtual_row, code_class, interface_row, with_receiver, invoked, with_arguments, invoke_row}
-use Rattle.pi_machine.proofs.RowDeeds.Words.{Does, RowLists, stuck, these, either, if_found, by_ref, goes_on, thrown}
+use Rattle.pi_machine.proofs.RowDeeds.Words.{Does, RowFacts, ValuedLists, stuck, these, either, if_found, by_ref, registers_values, thrown}
 use Rattle.pi_machine.proofs.RowDeeds.Natives.{AllBefore, native_deeds}
 
-module _ {p : Program} {s : State} {f : Frame} {Ends : List Deed → Type 0} {After : ℕ → List Deed → Type 0} {All : List Deed → Type 0} (k : RowLists p s f Ends After All) where
-  after_native : (m : ℕ) (deeds : List Deed) (class : Known) → ((o : Object) (ds : List Deed) → Ends ds → All (deeds ++ Make o ∷ ds))
+-- the registers of a new frame: zeros and the arguments
+each_replicate : {A : Type 0} (P : A → Type 0) (n : ℕ) (x : A) → P x → EachOf P (replicate n x)
+each_replicate P zero x h = tt
+each_replicate P (suc n) x h = (h, each_replicate P n x h)
+
+each_joined : {A : Type 0} (P : A → Type 0) (xs ys : List A) → EachOf P xs → EachOf P ys → EachOf P (xs ++ ys)
+each_joined P [] ys a b = b
+each_joined P (x ∷ xs) ys a b = (a.0, each_joined P xs ys a.1 b)
+
+pub entry_values : (V : Value → Type 0) → V (Word 0) → (m : ℕ) (code : Option Code) (args : List Value) (frame : Frame) → EachOf V args
+    → entry_frame m code args ≡ Some frame → EachOf V frame.registers
+entry_values V zero_is m None args frame x e = cc
+entry_values V zero_is m (Some code) args frame x e = by_count (length args == code.ins) e
+  where
+    registers : List Value
+    registers = replicate (code.regs - code.ins) (Word 0) ++ args
+    same_frame : (a b : Frame) → Some a ≡ Some b → a ≡ b
+    same_frame a b h = cc
+    by_count : (b : Bool) → (if b then Some (record { method = m; at = 0; registers = replicate (code.regs - code.ins) (Word 0) ++ args }) else None) ≡ Some frame
+        → EachOf V frame.registers
+    by_count true h = subst (λ (y : Frame). EachOf V y.registers) (same_frame (record { method = m; at = 0; registers = replicate (code.regs - code.ins) (Word 0) ++ args }) frame h)
+        (each_joined V (replicate (code.regs - code.ins) (Word 0)) args (each_replicate V (code.regs - code.ins) (Word 0) zero_is) x)
+    by_count false h = cc
+
+module _ {p : Program} {s : State} {f : Frame} {V : Option Ref → Value → Type 0} {O : Object → Type 0} {U : List ℕ → Type 0}
+    {Ends : Option Ref → List Deed → Type 0} {After : ℕ → List Deed → Type 0} {All : List Deed → Type 0}
+    (g : RowFacts p s f V O U) (k : ValuedLists p s f V O Ends After All) where
+  after_native : (m : ℕ) (deeds : List Deed) (class : Known) → ((c : ℕ) → All (deeds ++ Make (new_instance p c) ∷ Pend (next_made s) ∷ []))
       → Does All (option_map (λ ds. CallNative m ∷ deeds ++ ds) (throws p s class))
   after_native m deeds class a = by_class (class_named p (descriptor_of class))
     where
       by_class : (c : Option ℕ)
           → Does All (option_map (λ ds. CallNative m ∷ deeds ++ ds) (option_map (λ c. Make (new_instance p c) ∷ Pend (next_made s) ∷ []) c))
       by_class None = stuck
-      by_class (Some c) = these (k.call_native m _ (a (new_instance p c) (Pend (next_made s) ∷ []) (k.pend (next_made s) [] k.none)))
+      by_class (Some c) = these (k.call_native m _ (a c))
 
-  native_end_deeds : (units m : ℕ) (o : Option Outcome) → AllBefore Ends All o
-      → Does All (native_ends p s f units m o)
+  native_end_deeds : (units m : ℕ) (o : Option Outcome) → AllBefore p s f All o → Does All (native_ends p s f units m o)
   native_end_deeds units m None e = stuck
-  native_end_deeds units m (Some (Gives deeds held)) e =
-      these (k.call_native m _ (e.each (Hold held ∷ go_on f units) (k.hold held (go_on f units) (goes_on k units))))
+  native_end_deeds units m (Some (Gives deeds held)) e = these (k.call_native m _ (e.each units))
   native_end_deeds units m (Some (Fails deeds class)) e = after_native m deeds class e.each
 
-  frame_deeds : (frame : Option Frame) → Does All (calls_frame frame)
-  frame_deeds None = stuck
-  frame_deeds (Some g) = these (k.rest (Push (Call g) ∷ []) (k.push_call g [] k.none))
+  frame_deeds : (m : ℕ) (code : Option Code) (args : List Value) → EachOf (V None) args → Does All (calls_frame (entry_frame m code args))
+  frame_deeds m code args x = by_frame (entry_frame m code args) (entry_values (V None) (g.small 0 (omega arith)) m code args)
+    where
+      by_frame : (frame : Option Frame) → ((h : Frame) → EachOf (V None) args → frame ≡ Some h → EachOf (V None) h.registers) → Does All (calls_frame frame)
+      by_frame None r = stuck
+      by_frame (Some h) r = these (k.rest (Push (Call h) ∷ []) (k.push_call None h [] (r h x refl) (k.none None)))
 
-  enter_deeds : (units m : ℕ) (args : List Value) (native : Option Native)
+  enter_deeds : (units m : ℕ) (args : List Value) (native : Option Native) → EachOf (V None) args
       → Does All (enters_method p s f units m args native)
-  enter_deeds units m args (Some native) = native_end_deeds units m (native_does p s native args) (native_deeds k native args)
-  enter_deeds units m args None = frame_deeds (entry_frame m (code_of p m) args)
+  enter_deeds units m args (Some native) x = native_end_deeds units m (native_does p s native args) (native_deeds g k native args)
+  enter_deeds units m args None x = frame_deeds m (code_of p m) args x
 
-  call_deeds : (units : ℕ) (args : List Value) (i : Option Member) → Does All (call_row p s f units args i)
-  call_deeds units args None = thrown k AbstractMethod
-  call_deeds units args (Some i) =
-      either (is_abstract (method_at p i)) (thrown k AbstractMethod) (enter_deeds units (method_no_of p i) args (native_at p i))
+  call_deeds : (units : ℕ) (args : List Value) (i : Option Member) → EachOf (V None) args → Does All (call_row p s f units args i)
+  call_deeds units args None x = thrown g k AbstractMethod
+  call_deeds units args (Some i) x =
+      either (is_abstract (method_at p i)) (thrown g k AbstractMethod) (enter_deeds units (method_no_of p i) args (native_at p i) x)
 
-  virtual_deeds : (units : ℕ) (m : MethodRef) (args : List Value) (r : Ref)
+  virtual_deeds : (units : ℕ) (m : MethodRef) (args : List Value) (r : Ref) → EachOf (V None) args
       → Does All (virtual_row p s f units m args r)
-  virtual_deeds units m args r = call_deeds units args (dispatch_from p m (receiver_class p s r))
+  virtual_deeds units m args r x = call_deeds units args (dispatch_from p m (receiver_class p s r)) x
 
-  interface_deeds : (units : ℕ) (m : MethodRef) (i : Member) (args : List Value) (r : Ref)
+  interface_deeds : (units : ℕ) (m : MethodRef) (i : Member) (args : List Value) (r : Ref) → EachOf (V None) args
       → Does All (interface_row p s f units m i args r)
-  interface_deeds units m i args r =
-      either (same_text (class_descriptor p i.class) (descriptor_of JavaObject)) (virtual_deeds units m args r)
-      (either (is_of_type p s r (class_descriptor p i.class)) (virtual_deeds units m args r) (thrown k IncompatibleClassChange))
+  interface_deeds units m i args r x =
+      either (same_text (class_descriptor p i.class) (descriptor_of JavaObject)) (virtual_deeds units m args r x)
+      (either (is_of_type p s r (class_descriptor p i.class)) (virtual_deeds units m args r x) (thrown g k IncompatibleClassChange))
 
   by_receiver : (args : List Value) {go : Ref → Deeds} → ((r : Ref) → Does All (go r))
       → Does All (with_receiver p s args go)
   by_receiver [] h = stuck
-  by_receiver (v ∷ vs) h = by_ref s (Some v) (thrown k NullPointer) h
+  by_receiver (v ∷ vs) h = by_ref s (Some v) (thrown g k NullPointer) (λ r e. h r)
 
-  invoked_deeds : (units : ℕ) (how : How) (m : MethodRef) (args : List Value) (i : Member)
+  invoked_deeds : (units : ℕ) (how : How) (m : MethodRef) (args : List Value) (i : Member) → EachOf (V None) args
       → Does All (invoked p s f units how m args i)
-  invoked_deeds units Static m args i = call_deeds units args (Some i)
-  invoked_deeds units Direct m args i = by_receiver args (λ r. call_deeds units args (Some i))
-  invoked_deeds units Super m args i =
-      by_receiver args (λ r. call_deeds units args (dispatch_from p m (option_and_then (superclass_of p) (code_class p f))))
-  invoked_deeds units Virtual m args i = by_receiver args (λ r. virtual_deeds units m args r)
-  invoked_deeds units Interface m args i = by_receiver args (λ r. interface_deeds units m i args r)
+  invoked_deeds units Static m args i x = call_deeds units args (Some i) x
+  invoked_deeds units Direct m args i x = by_receiver args (λ r. call_deeds units args (Some i) x)
+  invoked_deeds units Super m args i x =
+      by_receiver args (λ r. call_deeds units args (dispatch_from p m (option_and_then (superclass_of p) (code_class p f))) x)
+  invoked_deeds units Virtual m args i x = by_receiver args (λ r. virtual_deeds units m args r x)
+  invoked_deeds units Interface m args i x = by_receiver args (λ r. interface_deeds units m i args r x)
 
   by_arguments : (how : How) (m : MethodRef) (args : Option (List Value)) {go : List Value → Deeds}
-      → ((args : List Value) → Does All (go args)) → Does All (with_arguments p s how m args go)
+      → ((vs : List Value) → args ≡ Some vs → Does All (go vs)) → Does All (with_arguments p s how m args go)
   by_arguments how m None h = stuck
-  by_arguments how m (Some args) h = either (arguments_fit s (argument_kinds p how m) args) (h args) stuck
+  by_arguments how m (Some args) h = either (arguments_fit s (argument_kinds p how m) args) (h args refl) stuck
 
   pub invoke_deeds : (units : ℕ) (how : How) (m : MethodRef) (regs : List ℕ)
       → Does All (invoke_row p s f units how m regs)
-  invoke_deeds units how m regs = by_arguments how m (registers_of f regs) (λ args.
-      if_found (find_method p m) (λ i. invoked_deeds units how m args i))
+  invoke_deeds units how m regs = by_arguments how m (registers_of f regs) (λ args e.
+      if_found (find_method p m) (λ i. invoked_deeds units how m args i (registers_values g regs args e)))
