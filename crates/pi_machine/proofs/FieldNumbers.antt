@@ -1,5 +1,5 @@
 -- Fields by their numbers: that of a class's own list, and that which an instruction names.
-use Rattle.std.proofs.Common.{◌≡◌, ℕ, zero, suc, ◌+◌, ◌<◌, List, [], ◌∷◌, take, sum_by, length, slice_get, Option, Some, None, Bool, true, false, IsSomeAnd, option_map, refl, sym, subst, arith}
+use Rattle.std.proofs.Common.{◌≡◌, ℕ, zero, suc, ◌+◌, ◌<◌, List, [], ◌∷◌, take, sum_by, length, slice_get, Option, Some, None, Bool, true, false, IsSomeAnd, option_map, refl, sym, subst, ap, arith}
 use Rattle.std.specs.Prelude.{◌&&◌, ◌-◌, nat_lt, if◌then◌else◌, option_and_then, ◌++◌}
 use Rattle.std.proofs.lemmas.List.Quantifiers.{position-Some}
 use Rattle.pi_model.specs.declared.numbers.NameNo.{NameNo}
@@ -11,6 +11,7 @@ use Rattle.pi_model.specs.Program.{Program, same_name, field_count, field_number
 use Rattle.pi_model.specs.Search.{Member, class_at, class_of, in_class, or_else, first_among, parent_list, own_field, field_in, field_from, find_field, field_no_of, member_by}
 use Rattle.pi_model.proofs.Members.{below_all, member_back}
 use Rattle.pi_machine.specs.StepLaws.{IsFieldOf}
+use Rattle.pi_machine.proofs.Truths.{some_same}
 
 -- the field at a place of a class's own list, by its number
 pub field_at : (p : Program) (c : ℕ) (d : ClassDesc) → class_at p c ≡ Some d → (place f : ℕ) → f ≡ field_number p c place → place < length d.fields → IsFieldOf p c f
@@ -41,10 +42,7 @@ module _ (p : Program) (r : FieldRef) where
   finds_own c d (Some place) e is =
       let at : (place < length d.fields) × _ × _ =
       position-Some (λ (x : FieldDesc). same_name x.name r.name && same_name x.ty r.ty) d.fields place (record { name = r.name; ty = r.ty; flags = 0; init = Zero }) is in
-      record { found = λ i same. subst (λ (j : Member). IsFieldOf p j.class (field_no_of p j)) (the_same (in_class c place) i same) (field_at p c d e place (field_number p c place) refl (at.0)) }
-    where
-      the_same : (x y : Member) → Some x ≡ Some y → x ≡ y
-      the_same x y e = cc
+      record { found = λ i same. subst (λ (j : Member). IsFieldOf p j.class (field_no_of p j)) (some_same (in_class c place) i same) (field_at p c d e place (field_number p c place) refl (at.0)) }
 
   finds_then : (f : ℕ → Option Member) (o : Option ℕ) → ((c : ℕ) → Finds (f c)) → Finds (option_and_then f o)
   finds_then f None h = finds_none
@@ -77,12 +75,9 @@ pub member_class : (count : ClassDesc → ℕ) (ds : List ClassDesc) (first n : 
 member_class count [] first n i e = cc
 member_class count (d ∷ ds) first n i e = by_first (nat_lt n (count d)) e (member_class count ds (first + 1) (n - count d) i)
   where
-    same_class : (x y : Member) → Some x ≡ Some y → x.class ≡ y.class
-    same_class x y e = cc
-
     by_first : (b : Bool) → (if b then Some (in_class first n) else member_by count ds (first + 1) (n - count d)) ≡ Some i
         → (member_by count ds (first + 1) (n - count d) ≡ Some i → (k : ℕ) × (x : ClassDesc) × (i.class ≡ first + 1 + k) × (slice_get ds k ≡ Some x))
         → (k : ℕ) × (x : ClassDesc) × (i.class ≡ first + k) × (slice_get (d ∷ ds) k ≡ Some x)
-    by_first true h rest = let here : first ≡ i.class = same_class (in_class first n) i h in (0, d, omega (arith, here), refl)
+    by_first true h rest = let here : first ≡ i.class = ap (λ (x : Member). x.class) (some_same (in_class first n) i h) in (0, d, omega (arith, here), refl)
     by_first false h rest = let later : (k : ℕ) × (x : ClassDesc) × (i.class ≡ first + 1 + k) × (slice_get ds k ≡ Some x) = rest h in
         let at : i.class ≡ first + 1 + later.0 = later.2 in (suc (later.0), later.1, omega (arith, at), later.3)

@@ -5,6 +5,7 @@ use Rattle.std.specs.List.{list_any}
 use Rattle.pi_model.specs.Program.{Program}
 use Rattle.pi_model.specs.Sizes.{object_bytes}
 use Rattle.pi_model.specs.Values.{Value, Object, Instance, Array, Text}
+use Rattle.pi_machine.proofs.Truths.{some_same}
 use Rattle.pi_machine.specs.State.{State, Thing, Made, Touched}
 use Rattle.pi_machine.specs.Deeds.{Deed, Make, Touch, SetField, SetItem, do_deed, do_all, is_touched, with_field, with_item, in_thing, put_changed}
 use Rattle.pi_machine.specs.Images.{bytes_for, image_bytes, added_bytes, all_added, ImageBytesGrow}
@@ -16,9 +17,6 @@ set_same g [] i x y e h = refl
 set_same g (z ∷ xs) zero x y e h =
     let same : z ≡ x = some_same z x e in
     sum_by-cons g y xs ∙ (ap (λ n. n + sum_by g xs) (h ∙ sym (ap g same)) ∙ sym (sum_by-cons g z xs))
-  where
-    some_same : (a b : Thing) → Some a ≡ Some b → a ≡ b
-    some_same a b k = cc
 set_same g (z ∷ xs) (suc i) x y e h =
     sum_by-cons g z (slice_set xs i y) ∙ (ap (λ n. g z + n) (set_same g xs i x y e h) ∙ sym (sum_by-cons g z xs))
 

@@ -2,6 +2,7 @@
 mod ActExamples
 pub mod Changes
 mod Costs
+pub mod Each
 pub mod Ended
 pub mod FieldNumbers
 mod Five
@@ -31,5 +32,8 @@ pub mod Sample
 pub mod Statuses
 pub mod StepDeeds
 pub mod StepForms
+pub mod SoundValues
+pub mod Sounds
 mod Stuck
 pub mod Truths
+pub mod WordResults

@@ -1,6 +1,7 @@
 -- Reading the machine backwards: a thing among the others, and a reference operand.
 use Rattle.std.proofs.Common.{◌≡◌, ℕ, zero, suc, List, [], ◌∷◌, slice_get, Option, Some, None, Bool, true, false, if◌then◌else◌, refl, ◌∙◌, ap}
 use Rattle.pi_model.specs.Values.{Ref, Value, Word, Low, High, Long, At}
+use Rattle.pi_machine.proofs.Truths.{some_same}
 use Rattle.pi_machine.specs.State.{State, Thing}
 use Rattle.pi_machine.specs.Deeds.{Deed, put_changed, changed_at}
 use Rattle.pi_machine.specs.Objects.{names_thing}
@@ -20,9 +21,6 @@ things_stand_between [] n x e = cc
 things_stand_between (z ∷ xs) zero x e =
     let same : z ≡ x = some_same z x e in
     record { front = []; back = xs; before = refl; is = ap (λ y. y ∷ xs) same; changed = λ change. ap (λ y. change y ∷ xs) same }
-  where
-    some_same : (a b : Thing) → Some a ≡ Some b → a ≡ b
-    some_same a b k = cc
 things_stand_between (z ∷ xs) (suc n) x e =
     let h : StandsBetween xs n x = things_stand_between xs n x e in
     record {

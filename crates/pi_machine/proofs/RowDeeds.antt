@@ -11,7 +11,8 @@ use Rattle.pi_machine.specs.Sound.{EachOf}
 use Rattle.pi_machine.specs.State.{State, Frame, Nothing}
 use Rattle.pi_machine.specs.Deeds.{Deed, Jump}
 use Rattle.pi_machine.specs.Rows.{row}
-use Rattle.pi_machine.proofs.RowDeeds.Words.{Does, RowFacts, ValuedLists, RowLists, RowKinds, AnyValue, any_facts, each_any, valued, of_each, on_some, each_fails, these, goes, sets}
+use Rattle.pi_machine.proofs.Each.{each_any}
+use Rattle.pi_machine.proofs.RowDeeds.Words.{Does, RowFacts, ValuedLists, RowLists, RowKinds, AnyValue, any_facts, valued, of_each, on_some, each_fails, these, goes, sets}
 use Rattle.pi_machine.proofs.RowDeeds.Numbers.{move_deeds, move_result_deeds, move_exception_deeds, returning, return_deeds, const_string_deeds, const_class_deeds, unary_deeds, binary_deeds, binary_literal_deeds, compare_long_deeds, if_deeds, if_zero_deeds, switch_deeds}
 use Rattle.pi_machine.proofs.RowDeeds.Objects.{new_instance_deeds, monitor_deeds, check_cast_deeds, instance_of_deeds, throw_deeds, iget_deeds, iput_deeds, sget_deeds, sput_deeds, array_length_deeds, new_array_deeds, filled_row_deeds, fill_array_deeds, aget_deeds, aput_deeds}
 use Rattle.pi_machine.proofs.RowDeeds.Calls.{invoke_deeds}

@@ -26,7 +26,8 @@ use Rattle.pi_machine.proofs.RowDeeds.{OnConstants, any_constants, valued_rows}
 use Rattle.pi_machine.proofs.RowDeeds.Calls.{entry_values}
 use Rattle.pi_machine.specs.Sound.{EachOf}
 use Rattle.pi_model.specs.declared.describe.Code.{Code}
-use Rattle.pi_machine.proofs.RowDeeds.Words.{Does, RowFacts, ValuedLists, RowLists, RowKinds, AnyValue, AnyObject, AnyText, any_facts, each_any, valued, of_each, on_some, stuck, these, before, thrown}
+use Rattle.pi_machine.proofs.Each.{each_any}
+use Rattle.pi_machine.proofs.RowDeeds.Words.{Does, RowFacts, ValuedLists, RowLists, RowKinds, AnyValue, AnyObject, AnyText, any_facts, valued, of_each, on_some, stuck, these, before, thrown}
 
 -- Properties of the lists of deeds of a step: those of each row, and of the deeds of a pending throwable, of the start and
 -- of initialisation. `Values c` is of what follows where the static values of class c are set.

@@ -1,6 +1,6 @@
 -- Sound states: each reference names what is there, a literal that is named is touched, and numbers are as wide as they may
 -- be. What the constants of a program keep for it. All of it is our own.
-use Rattle.std.specs.Prelude.{◌≡◌, ℕ, ◌+◌, ◌*◌, ◌^◌, ◌<◌, List, [], ◌∷◌, length, slice_get, Option, Some, None, Bool, true, is_some}
+use Rattle.std.specs.Prelude.{◌≡◌, ℕ, ◌*◌, ◌^◌, ◌<◌, List, [], ◌∷◌, length, slice_get, Option, Some, None, true, is_some}
 use Rattle.std.specs.List.{list_any}
 use Rattle.pi_model.specs.declared.describe.ClassDesc.{ClassDesc}
 use Rattle.pi_model.specs.declared.describe.FieldDesc.{FieldDesc}

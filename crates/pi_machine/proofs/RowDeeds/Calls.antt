@@ -1,8 +1,10 @@
 -- The deeds of calls.
-use Rattle.std.proofs.Common.{◌≡◌, ℕ, zero, suc, length, replicate, Bool, true, false, refl, subst, arith, List, [], ◌∷◌, ◌++◌, Option, Some, None, option_map}
+use Rattle.std.proofs.Common.{◌≡◌, ℕ, length, replicate, Bool, true, false, refl, subst, arith, List, [], ◌∷◌, ◌++◌, Option, Some, None, option_map}
 use Rattle.std.specs.Prelude.{option_and_then, ◌==◌, ◌-◌, if◌then◌else◌}
 use Rattle.pi_model.specs.declared.describe.Code.{Code}
 use Rattle.pi_machine.specs.Sound.{EachOf}
+use Rattle.pi_machine.proofs.Each.{each_joined, each_replicate}
+use Rattle.pi_machine.proofs.Truths.{some_same}
 use Rattle.pi_model.specs.declared.insn.MethodRef.{MethodRef}
 use Rattle.pi_model.specs.declared.insn.How.{How}
 use Rattle.pi_model.specs.declared.insn.How.TheVariants.{Virtual, Super, Direct, Static, Interface}
@@ -13,9 +15,9 @@ use Rattle.pi_model.specs.Search.{Member, class_named, method_at, method_no_of, 
 use Rattle.pi_model.specs.Values.{Ref, Value, Word, Object}
 use Rattle.pi_model.specs.Fields.{new_instance}
 use Rattle.pi_machine.specs.State.{State, Frame, Call}
-use Rattle.pi_machine.specs.Deeds.{Deed, CallNative, Hold, Make, Pend, Push}
+use Rattle.pi_machine.specs.Deeds.{Deed, CallNative, Make, Pend, Push}
 use Rattle.pi_machine.specs.Objects.{class_descriptor}
-use Rattle.pi_machine.specs.Operands.{Deeds, registers_of, go_on}
+use Rattle.pi_machine.specs.Operands.{Deeds, registers_of}
 use Rattle.pi_machine.specs.Throwing.{throws, next_made, is_of_type}
 use Rattle.pi_machine.specs.Codes.{code_of}
 use Rattle.pi_machine.specs.Natives.{Native, Outcome, Gives, Fails, native_does}
@@ -24,26 +26,14 @@ use Rattle.pi_machine.proofs.RowDeeds.Words.{Does, RowFacts, ValuedLists, stuck,
 use Rattle.pi_machine.proofs.RowDeeds.Natives.{AllBefore, native_deeds}
 
 -- the registers of a new frame: zeros and the arguments
-each_replicate : {A : Type 0} (P : A → Type 0) (n : ℕ) (x : A) → P x → EachOf P (replicate n x)
-each_replicate P zero x h = tt
-each_replicate P (suc n) x h = (h, each_replicate P n x h)
-
-each_joined : {A : Type 0} (P : A → Type 0) (xs ys : List A) → EachOf P xs → EachOf P ys → EachOf P (xs ++ ys)
-each_joined P [] ys a b = b
-each_joined P (x ∷ xs) ys a b = (a.0, each_joined P xs ys a.1 b)
-
 pub entry_values : (V : Value → Type 0) → V (Word 0) → (m : ℕ) (code : Option Code) (args : List Value) (frame : Frame) → EachOf V args
     → entry_frame m code args ≡ Some frame → EachOf V frame.registers
 entry_values V zero_is m None args frame x e = cc
 entry_values V zero_is m (Some code) args frame x e = by_count (length args == code.ins) e
   where
-    registers : List Value
-    registers = replicate (code.regs - code.ins) (Word 0) ++ args
-    same_frame : (a b : Frame) → Some a ≡ Some b → a ≡ b
-    same_frame a b h = cc
     by_count : (b : Bool) → (if b then Some (record { method = m; at = 0; registers = replicate (code.regs - code.ins) (Word 0) ++ args }) else None) ≡ Some frame
         → EachOf V frame.registers
-    by_count true h = subst (λ (y : Frame). EachOf V y.registers) (same_frame (record { method = m; at = 0; registers = replicate (code.regs - code.ins) (Word 0) ++ args }) frame h)
+    by_count true h = subst (λ (y : Frame). EachOf V y.registers) (some_same (record { method = m; at = 0; registers = replicate (code.regs - code.ins) (Word 0) ++ args }) frame h)
         (each_joined V (replicate (code.regs - code.ins) (Word 0)) args (each_replicate V (code.regs - code.ins) (Word 0) zero_is) x)
     by_count false h = cc
 

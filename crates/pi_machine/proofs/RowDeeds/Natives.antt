@@ -236,9 +236,11 @@ module _ {p : Program} {s : State} {f : Frame} {V : Option Ref → Value → Typ
       let items : List Value = take count (drop at (items_in (object_at p s (Num a)))) in
       one_of (not (slice_index (component p ty) 0 == 67)) no_outcome (one_of (is_range at count n)
       (on_found_as (words_in items) (λ units e.
-      record { each = λ u. k.reads a _ (subst All (sym (append_assoc (sees_items a at items) (Make (Text units) ∷ []) (Hold (Result (At (next_made s))) ∷ go_on f u)))
-      (sees_items_deeds a items at (Make (Text units) ∷ Hold (Result (At (next_made s))) ∷ go_on f u) (range_stands p s a at count)
-      (k.make (Text units) _ (g.text_of items units e (stands_values g a at items (range_stands p s a at count))) (holds_new u)))) }))
+      record {
+        each = λ u. k.reads a _ (subst All (sym (append_assoc (sees_items a at items) (Make (Text units) ∷ []) (Hold (Result (At (next_made s))) ∷ go_on f u)))
+            (sees_items_deeds a items at (Make (Text units) ∷ Hold (Result (At (next_made s))) ∷ go_on f u) (range_stands p s a at count)
+            (k.make (Text units) _ (g.text_of items units e (stands_values g a at items (range_stands p s a at count))) (holds_new u))));
+      }))
       (fails ArrayIndexOutOfBounds))
   of_chars_deeds _ at count _ = no_outcome
 

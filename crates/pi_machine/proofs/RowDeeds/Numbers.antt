@@ -21,14 +21,12 @@ use Rattle.pi_machine.specs.Deeds.{Deed, Saw, OfHeld, Touch, Hold, Jump, GoOn}
 use Rattle.pi_machine.specs.Operands.{Deeds, register_of}
 use Rattle.pi_machine.specs.Rows.Registers.{move_row, move_result_row, move_exception_row, returns, return_row, const_string_row, const_class_row}
 use Rattle.pi_machine.specs.Rows.Numbers.{takes_long, unary_value, with_number, unary_row, result_or_throw, is_shift, binary_row, binary_literal_row, compare_long_row, branch, compared, branch_by, if_row, if_zero_row, to_case, switch_row}
+use Rattle.pi_machine.proofs.Truths.{some_same}
 use Rattle.pi_machine.proofs.RowDeeds.Words.{Does, RowFacts, ValuedLists, OnHeld, number, stuck, these, before, by_word, by_long, by_operand, by_kind, goes, sets_last, sets, thrown}
 
 mapped : (V : Value → Type 0) (make : ℕ → Value) (o : Option ℕ) → ((r : ℕ) → o ≡ Some r → V (make r)) → (w : Value) → option_map make o ≡ Some w → V w
 mapped V make None h w e = cc
-mapped V make (Some r) h w e = subst V (same_value (make r) w e) (h r refl)
-  where
-    same_value : (x y : Value) → Some x ≡ Some y → x ≡ y
-    same_value x y k = cc
+mapped V make (Some r) h w e = subst V (some_same (make r) w e) (h r refl)
 
 -- a comparison is -1, 0 or 1
 comparison_small : (m n : ℕ) → long_comparison m n < 2 ^ 32

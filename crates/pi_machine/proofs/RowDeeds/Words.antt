@@ -24,6 +24,7 @@ use Rattle.pi_machine.specs.Rows.Numbers.{takes_long, unary_value}
 use Rattle.pi_machine.specs.Rows.Arrays.{first_item}
 use Rattle.pi_machine.specs.Sound.{EachOf}
 use Rattle.pi_machine.specs.Throwing.{throws, next_made}
+use Rattle.pi_machine.proofs.Truths.{some_same}
 use Rattle.pi_machine.specs.StepLaws.{EachDeed, IsSeen, HasField, HasItem, IsFieldOf}
 use Rattle.pi_machine.specs.StepForms.{reads_static}
 
@@ -172,10 +173,6 @@ any_facts p s f = record {
   zeros = λ ty n letter. tt;
   array = λ ty vs x. tt;
 }
-
-pub each_any : {A : Type 0} (xs : List A) → EachOf (λ x. Unit {0}) xs
-each_any [] = tt
-each_any (x ∷ xs) = (tt, each_any xs)
 
 abbrev pub valued : {p : Program} {s : State} {f : Frame} {Ends : List Deed → Type 0} {After : ℕ → List Deed → Type 0} {All : List Deed → Type 0}
     → RowLists p s f Ends After All → ValuedLists p s f AnyValue AnyObject (λ new. Ends) After All
@@ -348,19 +345,14 @@ module _ {p : Program} {s : State} {f : Frame} {V : Option Ref → Value → Typ
   by_operand kind.Ref a h = by_ref s (register_of f a) (h (Word 0) (g.small 0 (omega arith))) (λ r e. h (At r) (g.register a (At r) e))
 
   pub registers_values : (regs : List ℕ) (vs : List Value) → registers_of f regs ≡ Some vs → EachOf (V None) vs
-  registers_values [] vs e = subst (EachOf (V None)) (same_list [] vs e) tt
-    where
-      same_list : (x y : List Value) → Some x ≡ Some y → x ≡ y
-      same_list x y h = cc
+  registers_values [] vs e = subst (EachOf (V None)) (some_same [] vs e) tt
   registers_values (a ∷ regs) vs e = by_joined (register_of f a) (registers_of f regs) refl (registers_values regs) e
     where
-      same_list : (x y : List Value) → Some x ≡ Some y → x ≡ y
-      same_list x y h = cc
       by_joined : (o : Option Value) (rest : Option (List Value)) → register_of f a ≡ o → ((xs : List Value) → rest ≡ Some xs → EachOf (V None) xs)
           → joined o rest ≡ Some vs → EachOf (V None) vs
       by_joined None rest is h j = cc
       by_joined (Some v) None is h j = cc
-      by_joined (Some v) (Some xs) is h j = subst (EachOf (V None)) (same_list (v ∷ xs) vs j) (g.register a v is, h xs refl)
+      by_joined (Some v) (Some xs) is h j = subst (EachOf (V None)) (some_same (v ∷ xs) vs j) (g.register a v is, h xs refl)
 
 module _ {p : Program} {s : State} {f : Frame} {V : Option Ref → Value → Type 0} {O : Object → Type 0} {U : List ℕ → Type 0}
     {Ends : Option Ref → List Deed → Type 0} {After : ℕ → List Deed → Type 0} {All : List Deed → Type 0}
