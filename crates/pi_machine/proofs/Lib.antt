@@ -22,6 +22,7 @@ mod Mains
 pub mod ManySteps
 mod NativeCalls
 mod NativeCopies
+mod Premises
 pub mod Readings
 mod Rests
 pub mod RowDeeds
@@ -32,6 +33,8 @@ pub mod Sample
 pub mod Statuses
 pub mod StepDeeds
 pub mod StepForms
+mod SoundExamples
+pub mod SoundStarts
 pub mod SoundValues
 pub mod Sounds
 mod Stuck

@@ -58,7 +58,7 @@ module _ {old new : List Thing} (g : Grows old new) where
   object_grows p (Array ty items) x = (x.0, values_grow items x.1)
   object_grows p (Text units) x = x
 
-  thing_grows : (p : Program) (x : Thing) → IsSoundThing p old x → IsSoundThing p new x
+  pub thing_grows : (p : Program) (x : Thing) → IsSoundThing p old x → IsSoundThing p new x
   thing_grows p (Made file o) x = object_grows p o x
   thing_grows p (Touched file n) x = x
 
@@ -76,7 +76,7 @@ module _ {old new : List Thing} (g : Grows old new) where
   any_grows (Some r) x = g.there r x
 
 -- a sound state with other things, which are sound and name what was named
-with_things : (p : Program) (s : State) (things : List Thing) → IsSound p s → Grows s.things things → EachOf (IsSoundThing p things) things
+pub with_things : (p : Program) (s : State) (things : List Thing) → IsSound p s → Grows s.things things → EachOf (IsSoundThing p things) things
     → IsSound p (record s { things = things })
 with_things p s things h g x = record {
   things = x;
@@ -104,7 +104,7 @@ any_before test (x ∷ things) others e = by_first (test x) e (any_before test t
     by_first true k h = refl
     by_first false k h = h k
 
-grows_more : (things others : List Thing) → Grows things (things ++ others)
+pub grows_more : (things others : List Thing) → Grows things (things ++ others)
 grows_more things others = record { there = by_ref }
   where
     by_ref : (r : Ref) → IsThere things r → IsThere (things ++ others) r

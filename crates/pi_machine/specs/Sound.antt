@@ -17,6 +17,7 @@ use Rattle.pi_model.specs.Values.{Ref, Num, Lit, Cls, Value, Word, Low, High, Lo
 use Rattle.pi_machine.specs.State.{State, Thing, Made, Touched, Entry, Call, Record, Held, Nothing, Result, Thrown}
 use Rattle.pi_machine.specs.Deeds.{Deed, Make, is_touched, do_all}
 use Rattle.pi_machine.specs.Objects.{made_of}
+use Rattle.pi_machine.specs.Start.{first_state, with_main}
 use Rattle.pi_machine.specs.Step.{deeds_of}
 use Rattle.pi_machine.specs.StepLaws.{EachDeed}
 
@@ -110,6 +111,13 @@ pub record ClassHasWords (d : ClassDesc) : Type 0 where
 pub record HasWordConstants (p : Program) : Type 0 where
   pub names : EachOf IsSoundText p.names
   pub classes : EachOf ClassHasWords p.classes
+
+-- Before anything runs the state is sound; so is a sound state in which a run begins, where its arguments are texts of words
+-- and fewer than 2^31.
+pub record StartsAreSound : Type 0 where
+  pub first : (p : Program) → IsSound p (first_state p)
+  pub main : (p : Program) (main : ℕ) (args : List (List ℕ)) (s : State) → IsSound p s → EachOf IsSoundText args → length args < 2 ^ 31
+      → IsSound p (with_main p main args s)
 
 -- what is made has fewer than 2^31 elements or units
 abbrev pub IsShort : Object → Type 0
