@@ -1,10 +1,10 @@
 -- What holds of all deeds of the row of an instruction: a property of every kind of deed that rows do holds of each deed
 -- of each row.
-use Rattle.std.proofs.Common.{◌≡◌, ℕ, List, [], ◌∷◌, Option, Some, None, Bool, true, false, refl, subst, map, ◌==◌}
+use Rattle.std.proofs.Common.{◌≡◌, ℕ, List, [], ◌∷◌, Option, Some, None, Bool, true, false, refl, subst, map, length, ◌==◌}
 use Rattle.pi_model.specs.declared.insn.Insn.{Insn}
 use Rattle.pi_model.specs.declared.insn.Insn.TheVariants.{Nop, Move, MoveResult, MoveException, ReturnVoid, Return, Const, ConstWide, ConstString, ConstClass, Monitor, CheckCast, InstanceOf, ArrayLength, NewInstance, NewArray, Filled, FillArray, Throw, Goto, Switch, CmpLong, If, IfZ, Aget, Aput, Iget, Iput, Sget, Sput, Invoke, Unary, Binary, BinaryLit}
 use Rattle.pi_model.specs.Program.{Program}
-use Rattle.pi_model.specs.Values.{Ref, Value, Word, Long, Object}
+use Rattle.pi_model.specs.Values.{Ref, Value, Word, Long, Object, Array}
 use Rattle.pi_model.specs.Sizes.{width_of}
 use Rattle.pi_machine.specs.Rows.Arrays.{item_value}
 use Rattle.pi_machine.specs.Sound.{EachOf}
@@ -12,7 +12,7 @@ use Rattle.pi_machine.specs.State.{State, Frame, Nothing}
 use Rattle.pi_machine.specs.Deeds.{Deed, Jump}
 use Rattle.pi_machine.specs.Rows.{row}
 use Rattle.pi_machine.proofs.Each.{each_any}
-use Rattle.pi_machine.proofs.RowDeeds.Words.{Does, RowFacts, ValuedLists, RowLists, RowKinds, AnyValue, any_facts, valued, of_each, on_some, each_fails, these, goes, sets}
+use Rattle.pi_machine.proofs.RowDeeds.Words.{Does, RowFacts, ValuedLists, RowLists, RowKinds, AnyValue, AnyObject, any_facts, valued, of_each, on_some, each_fails, these, goes, sets}
 use Rattle.pi_machine.proofs.RowDeeds.Numbers.{move_deeds, move_result_deeds, move_exception_deeds, returning, return_deeds, const_string_deeds, const_class_deeds, unary_deeds, binary_deeds, binary_literal_deeds, compare_long_deeds, if_deeds, if_zero_deeds, switch_deeds}
 use Rattle.pi_machine.proofs.RowDeeds.Objects.{new_instance_deeds, monitor_deeds, check_cast_deeds, instance_of_deeds, throw_deeds, iget_deeds, iput_deeds, sget_deeds, sput_deeds, array_length_deeds, new_array_deeds, filled_row_deeds, fill_array_deeds, aget_deeds, aput_deeds}
 use Rattle.pi_machine.proofs.RowDeeds.Calls.{invoke_deeds}
@@ -24,17 +24,18 @@ pub mod Natives
 pub mod Calls
 
 -- the constants of an instruction as values
-abbrev pub OnConstants : (Value → Type 0) → Insn → Type 0
-OnConstants V (Const a v) = V (Word v)
-OnConstants V (ConstWide a v) = V (Long v)
-OnConstants V (BinaryLit op a b v) = V (Word v)
-OnConstants V (FillArray a width items) = (letter : ℕ) → (width_of letter == width) ≡ true → EachOf V (map (item_value letter) items)
-OnConstants V _ = Unit {0}
+abbrev pub OnConstants : (Value → Type 0) → (Object → Type 0) → Insn → Type 0
+OnConstants V O (Const a v) = V (Word v)
+OnConstants V O (ConstWide a v) = V (Long v)
+OnConstants V O (BinaryLit op a b v) = V (Word v)
+OnConstants V O (Filled t regs) = (vs : List Value) → length vs ≡ length regs → EachOf V vs → O (Array t.0 vs)
+OnConstants V O (FillArray a width items) = (letter : ℕ) → (width_of letter == width) ≡ true → EachOf V (map (item_value letter) items)
+OnConstants V O _ = Unit {0}
 
 module _ {p : Program} {s : State} {f : Frame} {V : Option Ref → Value → Type 0} {O : Object → Type 0} {U : List ℕ → Type 0}
     {Ends : Option Ref → List Deed → Type 0} {After : ℕ → List Deed → Type 0} {All : List Deed → Type 0}
     (g : RowFacts p s f V O U) (k : ValuedLists p s f V O Ends After All) where
-  pub valued_rows : (units : ℕ) (i : Insn) → OnConstants (V None) i → Does All (row p s f units i)
+  pub valued_rows : (units : ℕ) (i : Insn) → OnConstants (V None) O i → Does All (row p s f units i)
   valued_rows units Nop cs = goes g k units
   valued_rows units (Move kd a b) cs = move_deeds g k units kd a b
   valued_rows units (MoveResult kd a) cs = move_result_deeds g k units _ kd a refl
@@ -51,7 +52,7 @@ module _ {p : Program} {s : State} {f : Frame} {V : Option Ref → Value → Typ
   valued_rows units (ArrayLength a b) cs = array_length_deeds g k units a b
   valued_rows units (NewInstance a t) cs = new_instance_deeds g k units a t
   valued_rows units (NewArray a b t) cs = new_array_deeds g k units a b t
-  valued_rows units (Filled t regs) cs = filled_row_deeds g k units t regs
+  valued_rows units (Filled t regs) cs = filled_row_deeds g k units t regs cs
   valued_rows units (FillArray a width items) cs = fill_array_deeds g k units a width items cs
   valued_rows units (Throw a) cs = throw_deeds g k a
   valued_rows units (Goto to) cs = these (k.rest (Jump to ∷ []) (k.jump None to [] (k.none None)))
@@ -74,10 +75,11 @@ module _ {p : Program} {s : State} {f : Frame} {V : Option Ref → Value → Typ
 any_items : (letter : ℕ) (items : List ℕ) → EachOf (AnyValue None) (map (item_value letter) items)
 any_items letter items = each_any (map (item_value letter) items)
 
-pub any_constants : (i : Insn) → OnConstants (AnyValue None) i
+pub any_constants : (i : Insn) → OnConstants (AnyValue None) AnyObject i
 any_constants (Const a v) = tt
 any_constants (ConstWide a v) = tt
 any_constants (BinaryLit op a b v) = tt
+any_constants (Filled t regs) = λ vs e x. tt
 any_constants (FillArray a width items) = λ letter e. any_items letter items
 any_constants _ = tt
 

@@ -1,6 +1,7 @@
 -- Values of a sound state are sound, and so are those that rows make of them.
-use Rattle.std.proofs.Common.{◌≡◌, ◌⊎◌, inl, inr, ℕ, zero, suc, ◌+◌, ◌*◌, ◌/◌, ◌%◌, ◌^◌, ◌<◌, List, [], ◌∷◌, length, slice_get, Option, Some, None, Bool, true, false, if◌then◌else◌, option_map, ℤ, pos, negsuc, refl, subst, arith, nat_lt}
+use Rattle.std.proofs.Common.{◌≡◌, ◌⊎◌, inl, inr, ℕ, zero, suc, ◌+◌, ◌*◌, ◌/◌, ◌%◌, ◌^◌, ◌<◌, List, [], ◌∷◌, length, slice_get, Option, Some, None, Bool, true, false, if◌then◌else◌, option_map, ℤ, pos, negsuc, refl, subst, arith, nat_lt, replicate}
 use Rattle.std.specs.Prelude.{unwrap_or, ◌==◌, ◌↔◌}
+use Rattle.std.proofs.lemmas.List.{length-replicate}
 use Rattle.std.specs.Fmt.{digits, digits_onto, digit_glyph, signed_decimal}
 use Rattle.std.specs.Int.{w64, cast_signed}
 use Rattle.std.proofs.Math.Nat.{mod-lt, div-lt_iff_lt-mul}
@@ -194,6 +195,8 @@ module _ (p : Program) (s : State) (h : IsSound p s) (names : EachOf IsSoundText
     text_of = λ vs us e x short. (short, words_each vs us e x);
     number_text = λ n short. (short, decimal_small (cast_signed w64 n));
     instance = λ c short. (refl, each_map Sound (first_value p) (λ (d : FieldDesc). first_sound (letter_of p d == 74)) _);
-    zeros = λ ty n letter short. (short, each_replicate Sound n (first_item letter) (first_sound (letter == 74)));
-    array = λ ty vs x short. (short, x);
+    zeros = λ ty n letter few short. (
+      let many : length (replicate n (first_item letter)) ≡ n = length-replicate n (first_item letter) in omega (arith, few, many),
+      each_replicate Sound n (first_item letter) (first_sound (letter == 74)),
+    );
   }

@@ -13,7 +13,7 @@ use Rattle.pi_model.specs.declared.describe.Line.{Line}
 use Rattle.pi_model.specs.declared.describe.Init.{Init}
 use Rattle.pi_model.specs.declared.describe.Init.TheVariants as init
 use Rattle.pi_model.specs.declared.insn.Insn.{Insn}
-use Rattle.pi_model.specs.declared.insn.Insn.TheVariants.{Const, ConstWide, FillArray, BinaryLit}
+use Rattle.pi_model.specs.declared.insn.Insn.TheVariants.{Const, ConstWide, Filled, FillArray, BinaryLit}
 use Rattle.pi_model.specs.declared.insn.Access.TheVariants as access
 use Rattle.pi_model.specs.Program.{Program}
 use Rattle.pi_model.specs.Search.{Member, class_at, method_at, method_of}
@@ -496,10 +496,11 @@ module _ (p : Program) (w : HasWordConstants p) (things : List Thing) where
   items_words letter width [] e x = tt
   items_words letter width (n ∷ items) e x = (item_words letter width n e x.0, items_words letter width items e x.1)
 
-  constants_of : (i : Insn) → HasWords i → OnConstants Sound i
+  constants_of : (i : Insn) → HasWords i → OnConstants Sound (IsSoundIfShort p things) i
   constants_of (Const a v) x = x
   constants_of (ConstWide a v) x = x
   constants_of (BinaryLit op a b v) x = x
+  constants_of (Filled t regs) x = λ vs count each short. (let few : length regs < 2 ^ 31 = x in omega (arith, few, count), each)
   constants_of (FillArray a width items) x = λ letter e. items_words letter width items e x
   constants_of _ x = tt
 

@@ -102,7 +102,7 @@ pub record ValuedSteps (p : Program) (s : State) (V : Option Ref → Value → T
 pub record StepFacts (p : Program) (s : State) (V : Option Ref → Value → Type 0) (O : Object → Type 0) (U : List ℕ → Type 0) : Type 0 where
   pub rows : (f : Frame) (below : List Entry) → s.stack ≡ Call f ∷ below → RowFacts p s f V O U
   pub any : RowFacts p s no_frame V O U
-  pub constants : (f : Frame) (l : Line) → line_of p f ≡ Some l → OnConstants (V None) l.insn
+  pub constants : (f : Frame) (l : Line) → line_of p f ≡ Some l → OnConstants (V None) O l.insn
   pub inits : (c : ℕ) (d : ClassDesc) → class_at p c ≡ Some d → EachOf (λ (f : FieldDesc). OnInit (V None) f.init) d.fields
   pub pending : (t : Ref) → s.pending ≡ Some t → V None (At t)
   pub args : EachOf (V None) (argument_list s.args)

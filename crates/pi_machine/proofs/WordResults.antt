@@ -1,5 +1,5 @@
 -- Results of arithmetic on words and longs are words and longs.
-use Rattle.std.proofs.Common.{◌≡◌, ℕ, zero, suc, List, ◌+◌, ◌-◌, ◌/◌, ◌%◌, ◌^◌, ◌<◌, ◌≤◌, Bool, true, false, Some, ℤ, pos, negsuc, neg_ℤ, nat_abs, refl, subst, arith}
+use Rattle.std.proofs.Common.{◌≡◌, ℕ, zero, suc, List, ◌+◌, ◌-◌, ◌/◌, ◌%◌, ◌^◌, ◌<◌, ◌≤◌, Bool, true, false, Some, ℤ, pos, negsuc, neg_ℤ, nat_abs, refl, subst, arith, ◌*◌, length}
 use Rattle.std.specs.Prelude.{int_div, int_rem, ltb}
 use Rattle.std.proofs.lemmas.Bool.{ltb-true, ltb-false}
 use Rattle.std.proofs.Math.Nat.{div-le_self, mod-le, mod-lt}
@@ -15,7 +15,8 @@ use Rattle.pi_model.specs.Arithmetic.{unless_zero, binary_result, extended}
 use Rattle.pi_machine.specs.State.{Thing}
 use Rattle.pi_machine.specs.Operands.{narrowed}
 use Rattle.pi_machine.specs.Rows.Numbers.{unary_value}
-use Rattle.pi_machine.specs.Sound.{IsSoundValue}
+use Rattle.pi_machine.specs.Sound.{IsSoundValue, FewBytesAreShort}
+use Rattle.pi_model.specs.Values.{Instance, Array, Text}
 use Rattle.std.proofs.lemmas.Nat.{pow_pos}
 
 -- how far a number is from 0 or from -1
@@ -161,3 +162,12 @@ narrowed_small access.Bool n e = let m : n % 2 ^ 8 < 2 ^ 8 = wrapped 8 n in omeg
 narrowed_small access.Byte n e = byte_small n
 narrowed_small access.Char n e = let m : n % 2 ^ 16 < 2 ^ 16 = wrapped 16 n in omega (arith, m)
 narrowed_small access.Short n e = short_small n
+
+-- an object of few bytes is short
+text_short : (n : ℕ) → (16 + 2 * n + 7) / 8 * 8 < 2 ^ 32 → n < 2 ^ 31
+text_short n e = omega (arith, e)
+
+pub few_bytes_are_short : FewBytesAreShort
+few_bytes_are_short p (Instance c fields) e = tt
+few_bytes_are_short p (Array ty items) e = tt
+few_bytes_are_short p (Text units) e = text_short (length units) e

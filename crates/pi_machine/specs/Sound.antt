@@ -10,9 +10,10 @@ use Rattle.pi_model.specs.declared.describe.Line.{Line}
 use Rattle.pi_model.specs.declared.describe.Init.{Init}
 use Rattle.pi_model.specs.declared.describe.Init.TheVariants as init
 use Rattle.pi_model.specs.declared.insn.Insn.{Insn}
-use Rattle.pi_model.specs.declared.insn.Insn.TheVariants.{Const, ConstWide, FillArray, BinaryLit}
+use Rattle.pi_model.specs.declared.insn.Insn.TheVariants.{Const, ConstWide, Filled, FillArray, BinaryLit}
 use Rattle.pi_model.specs.Program.{Program, all_fields}
 use Rattle.pi_model.specs.Fields.{first_fields}
+use Rattle.pi_model.specs.Sizes.{object_bytes}
 use Rattle.pi_model.specs.Values.{Ref, Num, Lit, Cls, Value, Word, Low, High, Long, At, Object, Instance, Array, Text}
 use Rattle.pi_machine.specs.State.{State, Thing, Made, Touched, Entry, Call, Record, Held, Nothing, Result, Thrown}
 use Rattle.pi_machine.specs.Deeds.{Deed, Make, is_touched, do_all}
@@ -83,11 +84,13 @@ pub record IsSound (p : Program) (s : State) : Type 0 where
   pub all_statics : length s.statics ≡ all_fields p
   pub all_statuses : length s.statuses ≡ length p.classes
 
--- the constants of an instruction are words and longs, and the items of its data are of their width in bytes
+-- the constants of an instruction are words and longs, the items of its data are of their width in bytes, and it fills no
+-- more than an array may have
 abbrev pub HasWords : Insn → Type 0
 HasWords (Const a v) = v < 2 ^ 32
 HasWords (ConstWide a v) = v < 2 ^ 64
 HasWords (BinaryLit op a b v) = v < 2 ^ 32
+HasWords (Filled t regs) = length regs < 2 ^ 31
 HasWords (FillArray a width items) = EachOf (λ n. n < 2 ^ (8 * width)) items
 HasWords _ = Unit {0}
 
@@ -119,18 +122,23 @@ pub record StartsAreSound : Type 0 where
   pub main : (p : Program) (main : ℕ) (args : List (List ℕ)) (s : State) → IsSound p s → EachOf IsSoundText args → length args < 2 ^ 31
       → IsSound p (with_main p main args s)
 
--- what is made has fewer than 2^31 elements or units
+-- a text has fewer than 2^31 units
 abbrev pub IsShort : Object → Type 0
 IsShort (Instance c fields) = Unit {0}
-IsShort (Array ty items) = length items < 2 ^ 31
+IsShort (Array ty items) = Unit {0}
 IsShort (Text units) = length units < 2 ^ 31
 
+-- a text that is made is short
 abbrev pub MakesShort : Deed → Type 0
 MakesShort (Make o) = IsShort o
 MakesShort _ = Unit {0}
 
--- A step leads from a sound state to a sound one, for programs whose constants are words, where what it makes is short. Without
--- that, texts could be joined until their length is no word.
+-- an object of fewer than 2^32 bytes is short
+abbrev pub FewBytesAreShort : Type 0
+FewBytesAreShort = (p : Program) (o : Object) → object_bytes p o < 2 ^ 32 → IsShort o
+
+-- A step leads from a sound state to a sound one, for programs whose constants are words, where a text that it makes is short.
+-- Without that, texts could be joined until their length is no word.
 abbrev pub StepsKeepSound : Type 0
 StepsKeepSound = (p : Program) (s : State) (deeds : List Deed) → HasWordConstants p → IsSound p s → deeds_of p s ≡ Some deeds → EachDeed MakesShort deeds
     → IsSound p (do_all deeds s)

@@ -7,7 +7,7 @@ ghost use Rattle.pi_machine.specs.StepLaws.{DeedsChangeOnly, StepsKeepStatuses, 
 ghost use Rattle.pi_machine.specs.StepLaws.{RowsKeepWithin, RowWritesAreInside, LooksAreTrue, RestHasNoStep, EndedIsAtRest, EndedHasNoStep, LongerRunEndsSame};
 ghost use Rattle.pi_machine.specs.StepForms.{WritesHaveOneTarget, StaticReadsHaveOneClass, StepsMakeFirst, StepWritesAreInside};
 ghost use Rattle.pi_machine.specs.Images.{ImageBytesGrow};
-ghost use Rattle.pi_machine.specs.Sound.{StartsAreSound, StepsKeepSound};
+ghost use Rattle.pi_machine.specs.Sound.{StartsAreSound, StepsKeepSound, FewBytesAreShort};
 ghost use Rattle.pi_machine.specs.Reading.{ThingsStandBetween, ReferencesGoOnAlike};
 
 /// A run from a state has one end at most.
@@ -101,7 +101,7 @@ pub fn references_go_on_alike()
     ensures { ReferencesGoOnAlike }
 {}
 
-/// A step leads from a sound state to a sound one, for programs whose constants are words, where what it makes is short.
+/// A step leads from a sound state to a sound one, for programs whose constants are words, where a text that it makes is short.
 pub fn steps_keep_sound()
     ensures { StepsKeepSound }
 {}
@@ -109,6 +109,11 @@ pub fn steps_keep_sound()
 /// The states in which runs start are sound.
 pub fn starts_are_sound()
     ensures { StartsAreSound }
+{}
+
+/// An object of fewer than 2^32 bytes is short.
+pub fn few_bytes_are_short()
+    ensures { FewBytesAreShort }
 {}
 
 /// A state that is at rest has no next step.

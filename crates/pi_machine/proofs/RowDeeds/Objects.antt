@@ -25,7 +25,7 @@ use Rattle.pi_machine.specs.Rows.Arrays.{with_array, is_array, item_letter, firs
 use Rattle.pi_machine.specs.Sound.{EachOf}
 use Rattle.pi_machine.specs.StepLaws.{HasField}
 use Rattle.pi_machine.proofs.FieldNumbers.{found_field}
-use Rattle.pi_machine.proofs.RowDeeds.Words.{Does, RowFacts, ValuedLists, stuck, these, before, either, if_found, if_found_as, by_word, by_ref, by_operand, registers_values, by_kind, either_is, goes_on, goes, sets_last, sets_new, sets, thrown}
+use Rattle.pi_machine.proofs.RowDeeds.Words.{Does, RowFacts, ValuedLists, stuck, these, before, either, if_found, if_found_as, by_word, by_ref, by_operand, registers_values, registers_count, by_kind, either_is, goes_on, goes, sets_last, sets_new, sets, thrown}
 
 -- an index within a length is below it
 pub index_within : (i n : ℕ) → is_index i n ≡ true → i < n
@@ -114,18 +114,21 @@ module _ {p : Program} {s : State} {f : Frame} {V : Option Ref → Value → Typ
       by_array r (shape_at p s r) refl (λ n ty items e. sets g k units a (Word items) (g.array_length (Num n) ty items e)))
 
   pub new_array_deeds : (units a b : ℕ) (t : NameNo) → Does All (new_array_row p s f units a b t)
-  new_array_deeds units a b t = by_word (register_of f b) (λ n x. either (not (is_array p t)) stuck (either (nat_lt n (2 ^ 31))
-      (before (Make (Array t.0 (replicate n (first_item (item_letter p t.0))))) (λ ds h. k.make _ ds (g.zeros t.0 n (item_letter p t.0)) h) (sets_new g k units a))
-      (thrown g k NegativeArraySize)))
+  new_array_deeds units a b t = by_word (register_of f b) (λ n x. either (not (is_array p t)) stuck (either_is (nat_lt n (2 ^ 31))
+      (λ few. before (Make (Array t.0 (replicate n (first_item (item_letter p t.0)))))
+      (λ ds h. k.make _ ds (g.zeros t.0 n (item_letter p t.0) (ltb-true n (2 ^ 31) few)) h) (sets_new g k units a))
+      (λ many. thrown g k NegativeArraySize)))
 
-  filled_deeds : (units : ℕ) (t : NameNo) (values : List Value) → EachOf (V None) values → Does All (filled p s f units t values)
+  filled_deeds : (units : ℕ) (t : NameNo) (values : List Value) → O (Array t.0 values) → Does All (filled p s f units t values)
   filled_deeds units t values x =
       either (is_array p t && list_all (fills s (item_letter p t.0)) values)
-      (these (k.make (Array t.0 values) _ (g.array t.0 values x)
+      (these (k.make (Array t.0 values) _ x
       (k.hold (Some (next_made s)) (Result (At (next_made s))) (go_on f units) (g.new (next_made s)) (goes_on g k (Some (next_made s)) units)))) stuck
 
-  pub filled_row_deeds : (units : ℕ) (t : NameNo) (regs : List ℕ) → Does All (filled_row p s f units t regs)
-  filled_row_deeds units t regs = if_found_as (registers_of f regs) (λ values e. filled_deeds units t values (registers_values g regs values e))
+  pub filled_row_deeds : (units : ℕ) (t : NameNo) (regs : List ℕ)
+      → ((vs : List Value) → length vs ≡ length regs → EachOf (V None) vs → O (Array t.0 vs)) → Does All (filled_row p s f units t regs)
+  filled_row_deeds units t regs c = if_found_as (registers_of f regs) (λ values e.
+      filled_deeds units t values (c values (registers_count f regs values e) (registers_values g regs values e)))
 
   -- elements of an array from a place on are set, before what follows them
   pub sets_items_deeds : (n ty items : ℕ) → shape_at p s (Num n) ≡ Some (OfArray ty items) → (values : List Value) (at : ℕ) (ds : List Deed)

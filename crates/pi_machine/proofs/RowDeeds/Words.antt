@@ -1,5 +1,5 @@
 -- What holds of all deeds of a row: the kinds of deeds that rows do, and the words in which rows are written.
-use Rattle.std.proofs.Common.{◌≡◌, ℕ, zero, ◌+◌, ◌<◌, List, [], ◌∷◌, ◌++◌, Option, Some, None, Bool, true, false, if◌then◌else◌, ◌||◌, option_map, refl, arith, length, subst, ◌%◌, ◌/◌, ◌^◌, ◌*◌, replicate, slice_get}
+use Rattle.std.proofs.Common.{◌≡◌, ℕ, zero, ◌+◌, ◌<◌, List, [], ◌∷◌, ◌++◌, Option, Some, None, Bool, true, false, if◌then◌else◌, ◌||◌, option_map, refl, arith, length, suc, subst, sym, ap, ◌∙◌, ◌%◌, ◌/◌, ◌^◌, ◌*◌, replicate, slice_get}
 use Rattle.std.specs.List.{list_any}
 use Rattle.std.specs.Prelude.{option_and_then, nat_lt, slice_index}
 use Rattle.std.proofs.lemmas.Bool.{ltb-true}
@@ -103,8 +103,7 @@ pub record RowFacts (p : Program) (s : State) (f : Frame) (V : Option Ref → Va
   pub text_of : (vs : List Value) (units : List ℕ) → words_in vs ≡ Some units → EachOf (V None) vs → O (Text units)
   pub number_text : (n : ℕ) → O (Text (long_text n))
   pub instance : (c : ℕ) → O (new_instance p c)
-  pub zeros : (ty n letter : ℕ) → O (Array ty (replicate n (first_item letter)))
-  pub array : (ty : ℕ) (vs : List Value) → EachOf (V None) vs → O (Array ty vs)
+  pub zeros : (ty n letter : ℕ) → n < 2 ^ 31 → O (Array ty (replicate n (first_item letter)))
 
 -- the same of lists of deeds with their values
 pub record ValuedLists (p : Program) (s : State) (f : Frame) (V : Option Ref → Value → Type 0) (O : Object → Type 0)
@@ -170,8 +169,7 @@ any_facts p s f = record {
   text_of = λ vs us e x. tt;
   number_text = λ n. tt;
   instance = λ c. tt;
-  zeros = λ ty n letter. tt;
-  array = λ ty vs x. tt;
+  zeros = λ ty n letter e. tt;
 }
 
 abbrev pub valued : {p : Program} {s : State} {f : Frame} {Ends : List Deed → Type 0} {After : ℕ → List Deed → Type 0} {All : List Deed → Type 0}
@@ -353,6 +351,17 @@ module _ {p : Program} {s : State} {f : Frame} {V : Option Ref → Value → Typ
       by_joined None rest is h j = cc
       by_joined (Some v) None is h j = cc
       by_joined (Some v) (Some xs) is h j = subst (EachOf (V None)) (some_same (v ∷ xs) vs j) (g.register a v is, h xs refl)
+
+-- as many values as registers
+pub registers_count : (f : Frame) (regs : List ℕ) (vs : List Value) → registers_of f regs ≡ Some vs → length vs ≡ length regs
+registers_count f [] vs e = sym (ap (λ xs. length xs) (some_same [] vs e))
+registers_count f (a ∷ regs) vs e = by_joined (register_of f a) (registers_of f regs) (registers_count f regs) e
+  where
+    by_joined : (o : Option Value) (rest : Option (List Value)) → ((xs : List Value) → rest ≡ Some xs → length xs ≡ length regs)
+        → joined o rest ≡ Some vs → length vs ≡ length (a ∷ regs)
+    by_joined None rest h j = cc
+    by_joined (Some v) None h j = cc
+    by_joined (Some v) (Some xs) h j = sym (ap (λ ys. length ys) (some_same (v ∷ xs) vs j)) ∙ ap (λ n. suc n) (h xs refl)
 
 module _ {p : Program} {s : State} {f : Frame} {V : Option Ref → Value → Type 0} {O : Object → Type 0} {U : List ℕ → Type 0}
     {Ends : Option Ref → List Deed → Type 0} {After : ℕ → List Deed → Type 0} {All : List Deed → Type 0}
