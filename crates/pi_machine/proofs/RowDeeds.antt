@@ -12,7 +12,7 @@ use Rattle.pi_machine.specs.State.{State, Frame, Nothing}
 use Rattle.pi_machine.specs.Deeds.{Deed, Jump}
 use Rattle.pi_machine.specs.Rows.{row}
 use Rattle.pi_machine.proofs.Each.{each_any}
-use Rattle.pi_machine.proofs.RowDeeds.Words.{Does, RowFacts, ValuedLists, RowLists, RowKinds, AnyValue, AnyObject, any_facts, valued, of_each, on_some, each_fails, these, goes, sets}
+use Rattle.pi_machine.proofs.RowDeeds.Words.{Does, RowFacts, ValuedLists, ValuedCalls, RowLists, RowKinds, AnyValue, AnyObject, any_facts, valued, valued_calls, of_each, on_some, each_fails, these, goes, sets}
 use Rattle.pi_machine.proofs.RowDeeds.Numbers.{move_deeds, move_result_deeds, move_exception_deeds, returning, return_deeds, const_string_deeds, const_class_deeds, unary_deeds, binary_deeds, binary_literal_deeds, compare_long_deeds, if_deeds, if_zero_deeds, switch_deeds}
 use Rattle.pi_machine.proofs.RowDeeds.Objects.{new_instance_deeds, monitor_deeds, check_cast_deeds, instance_of_deeds, throw_deeds, iget_deeds, iput_deeds, sget_deeds, sput_deeds, array_length_deeds, new_array_deeds, filled_row_deeds, fill_array_deeds, aget_deeds, aput_deeds}
 use Rattle.pi_machine.proofs.RowDeeds.Calls.{invoke_deeds}
@@ -33,8 +33,8 @@ OnConstants V O (FillArray a width items) = (letter : ℕ) → (width_of letter 
 OnConstants V O _ = Unit {0}
 
 module _ {p : Program} {s : State} {f : Frame} {V : Option Ref → Value → Type 0} {O : Object → Type 0} {U : List ℕ → Type 0}
-    {Ends : Option Ref → List Deed → Type 0} {After : ℕ → List Deed → Type 0} {All : List Deed → Type 0}
-    (g : RowFacts p s f V O U) (k : ValuedLists p s f V O Ends After All) where
+    {Ends : Option Ref → List Deed → Type 0} {After : ℕ → List Deed → Type 0} {Inner All : List Deed → Type 0}
+    (g : RowFacts p s f V O U) (k : ValuedLists p s f V O Ends After All) (calls : ValuedCalls p s f V O Ends After Inner All) where
   pub valued_rows : (units : ℕ) (i : Insn) → OnConstants (V None) O i → Does All (row p s f units i)
   valued_rows units Nop cs = goes g k units
   valued_rows units (Move kd a b) cs = move_deeds g k units kd a b
@@ -66,7 +66,7 @@ module _ {p : Program} {s : State} {f : Frame} {V : Option Ref → Value → Typ
   valued_rows units (Iput kd a b r) cs = iput_deeds g k units kd a b r
   valued_rows units (Sget kd a r) cs = sget_deeds g k units kd a r
   valued_rows units (Sput kd a r) cs = sput_deeds g k units kd a r
-  valued_rows units (Invoke how m regs) cs = invoke_deeds g k units how m regs
+  valued_rows units (Invoke how m regs) cs = invoke_deeds g k calls units how m regs
   valued_rows units (Unary op a b) cs = unary_deeds g k units op a b
   valued_rows units (Binary op a b c) cs = binary_deeds g k units op a b c
   valued_rows units (BinaryLit op a b v) cs = binary_literal_deeds g k units op a b v cs
@@ -85,7 +85,7 @@ any_constants _ = tt
 
 pub row_lists : {p : Program} {s : State} {f : Frame} {Ends : List Deed → Type 0} {After : ℕ → List Deed → Type 0} {All : List Deed → Type 0}
     (k : RowLists p s f Ends After All) (units : ℕ) (i : Insn) → Does All (row p s f units i)
-row_lists {p} {s} {f} k units i = valued_rows (any_facts p s f) (valued k) units i (any_constants i)
+row_lists {p} {s} {f} k units i = valued_rows (any_facts p s f) (valued k) (valued_calls k) units i (any_constants i)
 
 -- a property of each deed of a row
 pub row_deeds : {p : Program} {s : State} {f : Frame} {P : Deed → Type 0} (k : RowKinds p s f P) (units : ℕ) (i : Insn) → Does (EachDeed P) (row p s f units i)

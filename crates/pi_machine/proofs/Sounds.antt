@@ -4,7 +4,7 @@ use Rattle.std.specs.Prelude.{option_and_then}
 use Rattle.std.specs.List.{list_any}
 use Rattle.std.proofs.lemmas.Bool.{eqb-true}
 use Rattle.pi_model.specs.declared.reason.ClassState.{ClassState}
-use Rattle.pi_model.specs.declared.reason.ClassState.TheVariants.{Erroneous}
+use Rattle.pi_model.specs.declared.reason.ClassState.TheVariants.{InProgress, Erroneous}
 use Rattle.pi_model.specs.declared.describe.ClassDesc.{ClassDesc}
 use Rattle.pi_model.specs.declared.describe.FieldDesc.{FieldDesc}
 use Rattle.pi_model.specs.declared.describe.MethodDesc.{MethodDesc}
@@ -412,7 +412,6 @@ module _ (p : Program) (s : State) where
     saw = λ look ds e is k now h g same short. k now h g same short.1;
     saw_static = λ c field v ds e is k now h g same short. k now h g tt;
     reads = λ n ds k now h g same short. k now h g same short.1;
-    call_native = λ m ds k now h g same short. k now h g same short.1;
     print = λ bytes ds k now h g same short. k (do_deed (Print bytes) now) (print_sound now bytes h) g same short.1;
     set_static = λ c field v ds is below x k now h g same short. k (do_deed (SetStatic field v) now) (static_sound field v now h (value_grows g v x)) g tt;
     writes = λ n ds k now h g same short. k now h g same short.1;
@@ -427,11 +426,13 @@ module _ (p : Program) (s : State) where
   entry_sound (Call f) now x g = values_grow g f.registers x
   entry_sound (Record c phase) now x g = tt
 
-  sound_steps : ValuedSteps p s (OrNew s.things) (IsSoundIfShort p s.things) Ends (λ n. All) (λ c. Values) All
+  sound_steps : ValuedSteps p s (OrNew s.things) (IsSoundIfShort p s.things) Ends (λ n. All) (λ c. Values) All All
   unfolding NewThere
   sound_steps = record {
     rows = sound_rows;
-    set_status = λ c status ds k now h g n. k (do_deed (SetStatus c status) now) (status_sound c status now h) g n;
+    calls = λ f. record { inner = sound_rows f; call_native = λ m ds k now h g same short. k now h g same short.1 };
+    enter = λ c ds k now h g same short. k (do_deed (SetStatus c InProgress) now) (status_sound c InProgress now h) g tt;
+    set_status = λ c status ds e k now h g n. k (do_deed (SetStatus c status) now) (status_sound c status now h) g n;
     start = λ ds k now h g n. k (do_deed Start now) (start_sound now h) g n;
     push = λ e ds x k now h g n. k (do_deed (Push e) now) (stack_sound now (e ∷ now.stack) h (entry_sound e now x g, h.stack)) g n;
     set_phase = λ phase ds k now h g n. k (do_deed (SetPhase phase) now) (stack_sound now (on_record phase now.stack) h (on_record_sound now.things phase now.stack h.stack)) g n;

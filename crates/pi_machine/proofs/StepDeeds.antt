@@ -20,6 +20,7 @@ use Rattle.pi_machine.specs.Throwing.{throws, is_of_type, handler_for, to_handle
 use Rattle.pi_machine.specs.Rows.Calls.{entry_frame}
 use Rattle.pi_machine.specs.Initialisation.{Needed, need_of, by_status, after_needed, by_need, main_frame, argument_list, start_move, value_deeds, values_from, clinit_of, finishes, calls_clinit, clinit_move, record_move}
 use Rattle.pi_machine.specs.Step.{instruction_move, move_of, deeds_of}
+use Rattle.pi_machine.specs.StepForms.{enters_class}
 use Rattle.pi_machine.specs.StepLaws.{EachDeed, IsFieldOf, IsLookTrue, LooksAreTrue}
 use Rattle.pi_machine.proofs.FieldNumbers.{field_at}
 use Rattle.pi_machine.proofs.RowDeeds.{OnConstants, any_constants, valued_rows}
@@ -27,13 +28,14 @@ use Rattle.pi_machine.proofs.RowDeeds.Calls.{entry_values}
 use Rattle.pi_machine.specs.Sound.{EachOf}
 use Rattle.pi_model.specs.declared.describe.Code.{Code}
 use Rattle.pi_machine.proofs.Each.{each_any}
-use Rattle.pi_machine.proofs.RowDeeds.Words.{Does, RowFacts, ValuedLists, RowLists, RowKinds, AnyValue, AnyObject, AnyText, any_facts, valued, of_each, on_some, stuck, these, before, thrown}
+use Rattle.pi_machine.proofs.RowDeeds.Words.{Does, RowFacts, ValuedLists, ValuedCalls, RowLists, RowKinds, AnyValue, AnyObject, AnyText, any_facts, valued, valued_calls, of_each, on_some, stuck, these, before, thrown}
 
 -- Properties of the lists of deeds of a step: those of each row, and of the deeds of a pending throwable, of the start and
 -- of initialisation. `Values c` is of what follows where the static values of class c are set.
 pub record StepLists (p : Program) (s : State) (Ends : List Deed → Type 0) (After Values : ℕ → List Deed → Type 0) (All : List Deed → Type 0) : Type 0 where
   pub rows : (f : Frame) → RowLists p s f Ends After All
-  pub set_status : (c : ℕ) (status : ClassState) (ds : List Deed) → Ends ds → Ends (SetStatus c status ∷ ds)
+  pub enter : (c : ℕ) (ds : List Deed) → Ends ds → All (SetStatus c InProgress ∷ ds)
+  pub set_status : (c : ℕ) (status : ClassState) (ds : List Deed) → enters_class (SetStatus c status) ≡ false → Ends ds → Ends (SetStatus c status ∷ ds)
   pub start : (ds : List Deed) → Ends ds → Ends (Start ∷ ds)
   pub push : (e : Entry) (ds : List Deed) → Ends ds → Ends (Push e ∷ ds)
   pub set_phase : (phase : Phase) (ds : List Deed) → Ends ds → Ends (SetPhase phase ∷ ds)
@@ -62,7 +64,8 @@ no_frame = record { method = 0; at = 0; registers = [] }
 abbrev pub step_of_each : {p : Program} {s : State} {P : Deed → Type 0} → StepKinds p s P → StepLists p s (EachDeed P) (λ n. EachDeed P) (λ c. EachDeed P) (EachDeed P)
 step_of_each k = record {
   rows = λ f. of_each (k.rows f);
-  set_status = λ c status ds h. (k.set_status c status, h);
+  enter = λ c ds h. (k.set_status c InProgress, h);
+  set_status = λ c status ds e h. (k.set_status c status, h);
   start = λ ds h. (k.start, h);
   push = λ e ds h. (k.push e, h);
   set_phase = λ phase ds h. (k.set_phase phase, h);
@@ -85,9 +88,11 @@ OnInit V (init.Long n) = V (Long n)
 OnInit V _ = Unit {0}
 
 pub record ValuedSteps (p : Program) (s : State) (V : Option Ref → Value → Type 0) (O : Object → Type 0)
-    (Ends : Option Ref → List Deed → Type 0) (After Values : ℕ → List Deed → Type 0) (All : List Deed → Type 0) : Type 0 where
+    (Ends : Option Ref → List Deed → Type 0) (After Values : ℕ → List Deed → Type 0) (Inner All : List Deed → Type 0) : Type 0 where
   pub rows : (f : Frame) → ValuedLists p s f V O Ends After All
-  pub set_status : (c : ℕ) (status : ClassState) (ds : List Deed) → Ends None ds → Ends None (SetStatus c status ∷ ds)
+  pub calls : (f : Frame) → ValuedCalls p s f V O Ends After Inner All
+  pub enter : (c : ℕ) (ds : List Deed) → Ends None ds → All (SetStatus c InProgress ∷ ds)
+  pub set_status : (c : ℕ) (status : ClassState) (ds : List Deed) → enters_class (SetStatus c status) ≡ false → Ends None ds → Ends None (SetStatus c status ∷ ds)
   pub start : (ds : List Deed) → Ends None ds → Ends None (Start ∷ ds)
   pub push : (e : Entry) (ds : List Deed) → OnEntry (V None) e → Ends None ds → Ends None (Push e ∷ ds)
   pub set_phase : (phase : Phase) (ds : List Deed) → Ends None ds → Ends None (SetPhase phase ∷ ds)
@@ -116,7 +121,7 @@ any_inits : (fields : List FieldDesc) → EachOf (λ (f : FieldDesc). OnInit (An
 any_inits [] = tt
 any_inits (f ∷ fields) = (any_init f.init, any_inits fields)
 
-any_step : (p : Program) (s : State) → StepFacts p s AnyValue AnyObject AnyText
+pub any_step : (p : Program) (s : State) → StepFacts p s AnyValue AnyObject AnyText
 any_step p s = record {
   rows = λ f below e. any_facts p s f;
   any = any_facts p s no_frame;
@@ -127,10 +132,12 @@ any_step p s = record {
 }
 
 abbrev pub valued_step : {p : Program} {s : State} {Ends : List Deed → Type 0} {After Values : ℕ → List Deed → Type 0} {All : List Deed → Type 0}
-    → StepLists p s Ends After Values All → ValuedSteps p s AnyValue AnyObject (λ new. Ends) After Values All
+    → StepLists p s Ends After Values All → ValuedSteps p s AnyValue AnyObject (λ new. Ends) After Values All All
 valued_step k = record {
   rows = λ f. valued (k.rows f);
-  set_status = λ c status ds h. k.set_status c status ds h;
+  calls = λ f. valued_calls (k.rows f);
+  enter = λ c ds h. k.enter c ds h;
+  set_status = λ c status ds e h. k.set_status c status ds e h;
   start = λ ds h. k.start ds h;
   push = λ e ds x h. k.push e ds h;
   set_phase = λ phase ds h. k.set_phase phase ds h;
@@ -143,8 +150,8 @@ valued_step k = record {
 }
 
 module _ {p : Program} {s : State} {V : Option Ref → Value → Type 0} {O : Object → Type 0} {U : List ℕ → Type 0}
-    {Ends : Option Ref → List Deed → Type 0} {After Values : ℕ → List Deed → Type 0} {All : List Deed → Type 0}
-    (g : StepFacts p s V O U) (k : ValuedSteps p s V O Ends After Values All) where
+    {Ends : Option Ref → List Deed → Type 0} {After Values : ℕ → List Deed → Type 0} {Inner All : List Deed → Type 0}
+    (g : StepFacts p s V O U) (k : ValuedSteps p s V O Ends After Values Inner All) where
   abbrev r : ValuedLists p s no_frame V O Ends After All
   r = k.rows no_frame
 
@@ -154,7 +161,7 @@ module _ {p : Program} {s : State} {V : Option Ref → Value → Type 0} {O : Ob
   handler_deeds t (Some h) x = these (r.rest _ (k.unpend _ (r.hold None (Thrown t) _ x (r.jump None h.at [] (r.none None)))))
 
   fails_deeds : (c : ℕ) (b : Bool) → Does All (fails p s c b)
-  fails_deeds c true = these (r.rest _ (k.set_status c Erroneous _ (r.pop None [] (r.none None))))
+  fails_deeds c true = these (r.rest _ (k.set_status c Erroneous _ refl (r.pop None [] (r.none None))))
   fails_deeds c false = by_thrown (throws p s ExceptionInInitializer) (thrown g.any r ExceptionInInitializer)
     where
       by_thrown : (thrown : Deeds) → Does All thrown → Does All (option_map (λ ds. SetStatus c Erroneous ∷ Pop ∷ ds) thrown)
@@ -182,7 +189,7 @@ module _ {p : Program} {s : State} {V : Option Ref → Value → Type 0} {O : Ob
 
   instruction_deeds : (f : Frame) (below : List Entry) (l : Option Line) → s.stack ≡ Call f ∷ below → line_of p f ≡ l → Does All (instruction_move p s f l)
   instruction_deeds f below None e is = stuck
-  instruction_deeds f below (Some l) e is = valued_rows (g.rows f below e) (k.rows f) l.units l.insn (g.constants f l is)
+  instruction_deeds f below (Some l) e is = valued_rows (g.rows f below e) (k.rows f) (k.calls f) l.units l.insn (g.constants f l is)
 
   -- records
   first_value_deeds : (c f : ℕ) (i : Init) (others ds : List Deed) → IsFieldOf p c f → OnInit (V None) i → Values c (others ++ ds)
@@ -202,7 +209,7 @@ module _ {p : Program} {s : State} {V : Option Ref → Value → Type 0} {O : Ob
       (values_deeds c d e others x.1 (place + 1) (f + 1) ds (omega (arith, is)) (omega (arith, all)) h)
 
   finish_deeds : (c : ℕ) → Does All (Some (finishes c))
-  finish_deeds c = these (r.rest (finishes c) (k.set_status c Done _ (r.pop None [] (r.none None))))
+  finish_deeds c = these (r.rest (finishes c) (k.set_status c Done _ refl (r.pop None [] (r.none None))))
 
   clinit_frame_deeds : (m : ℕ) (code : Option Code) → Does All (calls_clinit (entry_frame m code []))
   clinit_frame_deeds m code = by_frame (entry_frame m code []) (λ f e. entry_values (V None) (g.any.small 0 (omega arith)) m code [] f tt e)
@@ -233,7 +240,7 @@ module _ {p : Program} {s : State} {V : Option Ref → Value → Type 0} {O : Ob
       → Does All (by_status p s c status move)
   status_deeds c None move e a = stuck
   status_deeds c (Some Fresh) move e a =
-      these (r.saw (OfStatus c Fresh) _ e refl (r.rest _ (k.set_status c InProgress _ (k.push (Record c Entered) [] tt (r.none None)))))
+      these (r.saw (OfStatus c Fresh) _ e refl (k.enter c _ (k.push (Record c Entered) [] tt (r.none None))))
   status_deeds c (Some InProgress) move e a = before (Saw (OfStatus c InProgress)) (λ ds h. r.saw (OfStatus c InProgress) ds e refl h) a
   status_deeds c (Some Done) move e a = before (Saw (OfStatus c Done)) (λ ds h. r.saw (OfStatus c Done) ds e refl h) a
   status_deeds c (Some Erroneous) move e a =

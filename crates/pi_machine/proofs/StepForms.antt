@@ -1,6 +1,7 @@
 -- The form of the list of deeds of a step: one target of its writes, one class of the statics that it reads, and one object
 -- made at most, before any literal is touched.
 use Rattle.std.proofs.Common.{◌≡◌, ℕ, List, [], ◌∷◌, Some, Bool, true, false, not, option_map, refl, ap, ◌<◌, length, arith}
+use Rattle.std.specs.Prelude.{if◌then◌else◌, ◌||◌}
 use Rattle.std.specs.List.{list_any}
 use Rattle.pi_model.specs.Program.{Program, all_fields}
 use Rattle.pi_model.specs.Search.{Member}
@@ -8,9 +9,9 @@ use Rattle.pi_machine.specs.State.{State, Frame}
 use Rattle.pi_machine.specs.Deeds.{Deed, Make, Touch, Saw, Reads, Writes, SetStatic, SetStatus, SetField, SetItem, CallNative, Print, Start, Push, Pop, SetReg, Jump, GoOn, SetPhase, Pend, Unpend, Hold}
 use Rattle.pi_machine.specs.Acts.{field_class}
 use Rattle.pi_machine.specs.StepLaws.{EachDeed, IsFieldOf}
-use Rattle.pi_machine.specs.StepForms.{Target, StaticsOf, ThingAt, WritesTo, WritesHaveOneTarget, ReadsOf, StaticReadsHaveOneClass, makes, makes_first, StepsMakeFirst, IsPlaceThere, StepWritesAreInside}
-use Rattle.pi_machine.proofs.RowDeeds.Words.{RowKinds, RowLists, on_some}
-use Rattle.pi_machine.proofs.StepDeeds.{StepKinds, StepLists, step_deeds, step_lists}
+use Rattle.pi_machine.specs.StepForms.{Target, StaticsOf, ThingAt, WritesTo, WritesHaveOneTarget, ReadsOf, StaticReadsHaveOneClass, makes, makes_first, enters_class, calls_native, at_most_one, StepsEnterAndCallOnce, StepsMakeFirst, IsPlaceThere, StepWritesAreInside}
+use Rattle.pi_machine.proofs.RowDeeds.Words.{ValuedLists, AnyValue, AnyObject, RowKinds, RowLists, on_some}
+use Rattle.pi_machine.proofs.StepDeeds.{ValuedSteps, any_step, valued_steps, StepKinds, StepLists, step_deeds, step_lists}
 
 -- the class that declares a field of a class
 pub class_is : (p : Program) (c f : ℕ) → IsFieldOf p c f → field_class p f ≡ Some c
@@ -58,7 +59,8 @@ module _ (p : Program) where
   step_targets : (s : State) → StepLists p s NoWrites (λ n. Writing (ThingAt n)) (λ c. Writing (StaticsOf c)) OneTarget
   step_targets s = record {
     rows = λ f. row_targets s f;
-    set_status = λ c status ds h t. (λ e. cc, h t);
+    enter = λ c ds h. record { target = ThingAt 0; all = (λ e. cc, h (ThingAt 0)) };
+    set_status = λ c status ds is h t. (λ e. cc, h t);
     start = λ ds h t. (λ e. cc, h t);
     push = λ e ds h t. (λ e. cc, h t);
     set_phase = λ phase ds h t. (λ e. cc, h t);
@@ -112,7 +114,8 @@ module _ (p : Program) where
   step_reads : (s : State) → StepLists p s NoReads (λ n. NoReads) (λ c. NoReads) OneClass
   step_reads s = record {
     rows = λ f. row_reads s f;
-    set_status = λ c status ds h d. (λ e. cc, h d);
+    enter = λ c ds h. record { class = 0; all = (λ e. cc, h 0) };
+    set_status = λ c status ds is h d. (λ e. cc, h d);
     start = λ ds h d. (λ e. cc, h d);
     push = λ e ds h d. (λ e. cc, h d);
     set_phase = λ phase ds h d. (λ e. cc, h d);
@@ -192,7 +195,8 @@ row_makes p s f = record {
 step_makes : (p : Program) (s : State) → StepLists p s MakesNone (λ n. MakesFirst) (λ c. MakesNone) MakesFirst
 step_makes p s = record {
   rows = λ f. row_makes p s f;
-  set_status = λ c status ds h. h;
+  enter = λ c ds h. none_first ds h;
+  set_status = λ c status ds is h. h;
   start = λ ds h. h;
   push = λ e ds h. h;
   set_phase = λ phase ds h. h;
@@ -245,3 +249,152 @@ step_places p s full = record {
 
 pub step_writes_are_inside : StepWritesAreInside
 step_writes_are_inside = λ p s deeds full e. on_some deeds e (step_deeds (step_places p s full))
+
+-- what a step does once at most
+none_one : (test : Deed → Bool) (ds : List Deed) → list_any test ds ≡ false → at_most_one test ds ≡ true
+none_one test [] e = refl
+none_one test (d ∷ ds) e = by_test (test d) e (none_one test ds)
+  where
+    by_test : (b : Bool) → (b || list_any test ds) ≡ false → (list_any test ds ≡ false → at_most_one test ds ≡ true)
+        → (if b then not (list_any test ds) else at_most_one test ds) ≡ true
+    by_test true k h = cc
+    by_test false k h = h k
+
+abbrev EntersNone : List Deed → Type 0
+EntersNone ds = list_any enters_class ds ≡ false
+
+abbrev EntersOne : List Deed → Type 0
+EntersOne ds = at_most_one enters_class ds ≡ true
+
+row_enters : (p : Program) (s : State) (f : Frame) → RowLists p s f EntersNone (λ n. EntersNone) EntersOne
+row_enters p s f = record {
+  none = refl;
+  push_call = λ g ds h. h;
+  pop = λ ds h. h;
+  set_reg = λ a v ds e h. h;
+  jump = λ to ds h. h;
+  past_call = λ ds h. h;
+  pend = λ r ds h. h;
+  hold = λ held ds h. h;
+  rest = λ ds h. none_one enters_class ds h;
+  make = λ o ds h. none_one enters_class ds h;
+  touch = λ n ds h. none_one enters_class ds h;
+  saw = λ look ds e is h. h;
+  saw_static = λ c field v ds e is h. none_one enters_class ds h;
+  reads = λ n ds h. h;
+  call_native = λ m ds h. h;
+  print = λ bytes ds h. h;
+  set_static = λ c field v ds is e h. none_one enters_class ds h;
+  writes = λ n ds h. none_one enters_class ds h;
+  set_field = λ n place v ds e h. h;
+  set_item = λ n place v ds e h. h;
+  saw_then = λ n look ds e is h. h;
+  make_then = λ n o ds h. h;
+  rest_then = λ n ds h. h;
+}
+
+not_entered : (a b : Bool) → a ≡ false → b ≡ false → (a || b) ≡ false
+not_entered true b e h = e
+not_entered false b e h = h
+
+entered_once : (b : Bool) → b ≡ false → not b ≡ true
+entered_once true e = cc
+entered_once false e = refl
+
+step_enters : (p : Program) (s : State) → StepLists p s EntersNone (λ n. EntersNone) (λ c. EntersNone) EntersOne
+step_enters p s = record {
+  rows = λ f. row_enters p s f;
+  enter = λ c ds h. entered_once (list_any enters_class ds) h;
+  set_status = λ c status ds is h. not_entered (enters_class (SetStatus c status)) (list_any enters_class ds) is h;
+  start = λ ds h. h;
+  push = λ e ds h. h;
+  set_phase = λ phase ds h. h;
+  unpend = λ ds h. h;
+  fails = λ c ds h. h;
+  first_static = λ c field v ds is h. h;
+  first_touch = λ c n ds h. h;
+  rest_of_values = λ c ds h. h;
+  values = λ c ds h. none_one enters_class ds h;
+}
+
+-- natives: what follows a call calls none
+abbrev CallsNone : List Deed → Type 0
+CallsNone ds = list_any calls_native ds ≡ false
+
+abbrev CallsOne : List Deed → Type 0
+CallsOne ds = at_most_one calls_native ds ≡ true
+
+inner_calls : (p : Program) (s : State) (f : Frame) → ValuedLists p s f AnyValue AnyObject (λ new. CallsNone) (λ n. CallsNone) CallsNone
+inner_calls p s f = record {
+  none = λ new. refl;
+  push_call = λ new g ds x h. h;
+  pop = λ new ds h. h;
+  set_reg = λ new a v ds e x h. h;
+  jump = λ new to ds h. h;
+  past_call = λ new ds h. h;
+  pend = λ new r ds x h. h;
+  hold = λ new held ds x h. h;
+  rest = λ ds h. h;
+  make = λ o ds x h. h;
+  touch = λ n ds h. h;
+  saw = λ look ds e is h. h;
+  saw_static = λ c field v ds e is h. h;
+  reads = λ n ds h. h;
+  print = λ bytes ds h. h;
+  set_static = λ c field v ds is e x h. h;
+  writes = λ n ds h. h;
+  set_field = λ n place v ds e x h. h;
+  set_item = λ n place v ds e x h. h;
+  saw_then = λ n look ds e is h. h;
+  make_then = λ n o ds x h. h;
+  rest_then = λ n ds h. h;
+}
+
+row_calls : (p : Program) (s : State) (f : Frame) → ValuedLists p s f AnyValue AnyObject (λ new. CallsNone) (λ n. CallsNone) CallsOne
+row_calls p s f = record {
+  none = λ new. refl;
+  push_call = λ new g ds x h. h;
+  pop = λ new ds h. h;
+  set_reg = λ new a v ds e x h. h;
+  jump = λ new to ds h. h;
+  past_call = λ new ds h. h;
+  pend = λ new r ds x h. h;
+  hold = λ new held ds x h. h;
+  rest = λ ds h. none_one calls_native ds h;
+  make = λ o ds x h. none_one calls_native ds h;
+  touch = λ n ds h. none_one calls_native ds h;
+  saw = λ look ds e is h. h;
+  saw_static = λ c field v ds e is h. none_one calls_native ds h;
+  reads = λ n ds h. h;
+  print = λ bytes ds h. h;
+  set_static = λ c field v ds is e x h. none_one calls_native ds h;
+  writes = λ n ds h. none_one calls_native ds h;
+  set_field = λ n place v ds e x h. h;
+  set_item = λ n place v ds e x h. h;
+  saw_then = λ n look ds e is h. h;
+  make_then = λ n o ds x h. h;
+  rest_then = λ n ds h. h;
+}
+
+step_calls : (p : Program) (s : State) → ValuedSteps p s AnyValue AnyObject (λ new. CallsNone) (λ n. CallsNone) (λ c. CallsNone) CallsNone CallsOne
+step_calls p s = record {
+  rows = λ f. row_calls p s f;
+  calls = λ f. record { inner = inner_calls p s f; call_native = λ m ds h. entered_once (list_any calls_native ds) h };
+  enter = λ c ds h. none_one calls_native ds h;
+  set_status = λ c status ds is h. h;
+  start = λ ds h. h;
+  push = λ e ds x h. h;
+  set_phase = λ phase ds h. h;
+  unpend = λ ds h. h;
+  fails = λ c ds h. h;
+  first_static = λ c field v ds is x h. h;
+  first_text = λ c field n ds is h. h;
+  rest_of_values = λ c ds h. h;
+  values = λ c ds h. none_one calls_native ds h;
+}
+
+pub steps_enter_and_call_once : StepsEnterAndCallOnce
+steps_enter_and_call_once = record {
+  enters = λ p s deeds e. on_some deeds e (step_lists (step_enters p s));
+  calls = λ p s deeds e. on_some deeds e (valued_steps (any_step p s) (step_calls p s));
+}

@@ -73,8 +73,9 @@ abbrev pub those_of : List (Option Act) → List Act
 those_of [] = []
 those_of (a ∷ others) = option_to_list a ++ those_of others
 
--- The acts of a step with these deeds, from a state: the first of each kind. It stands for all, since all that a step writes is
--- one object or statics of one class, and all statics that it reads are of one class.
+-- The acts of a step with these deeds, from a state: the first of each kind. It stands for all, since a step enters one class
+-- at most, all that it writes is one object or statics of one class, all statics that it reads are of one class, and it calls
+-- one native at most.
 abbrev pub acts : Program → State → List Deed → List Act
 acts p s deeds = those_of (
     option_map EnterClass (first_of entered_by deeds)

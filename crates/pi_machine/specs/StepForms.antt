@@ -1,10 +1,11 @@
 -- The form of the list of deeds of a step, as statements: what it writes is one target, what it reads of statics is of one
 -- class, and it makes one object at most, before any literal is touched.
-use Rattle.std.specs.Prelude.{◌≡◌, ℕ, ◌<◌, length, List, [], ◌∷◌, Option, Some, None, Bool, true, false, not, option_map}
+use Rattle.std.specs.Prelude.{◌≡◌, ℕ, ◌<◌, length, List, [], ◌∷◌, Option, Some, None, Bool, true, false, not, if◌then◌else◌, option_map}
 use Rattle.std.specs.List.{list_any}
 use Rattle.pi_model.specs.Program.{Program, all_fields}
 use Rattle.pi_machine.specs.State.{State}
-use Rattle.pi_machine.specs.Deeds.{Deed, Make, Touch, Saw, OfStatic, Writes, SetStatic, SetField, SetItem}
+use Rattle.pi_machine.specs.Deeds.{Deed, Make, Touch, Saw, OfStatic, Writes, SetStatic, SetStatus, SetField, SetItem, CallNative}
+use Rattle.pi_model.specs.declared.reason.ClassState.TheVariants.{InProgress}
 use Rattle.pi_machine.specs.Acts.{field_class, read_by}
 use Rattle.pi_machine.specs.Step.{deeds_of}
 use Rattle.pi_machine.specs.StepLaws.{EachDeed, HasField, HasItem}
@@ -62,6 +63,25 @@ IsPlaceThere s _ = Unit {0}
 abbrev pub StepWritesAreInside : Type 0
 StepWritesAreInside = (p : Program) (s : State) (deeds : List Deed) → length s.statics ≡ all_fields p → deeds_of p s ≡ Some deeds
     → EachDeed (IsPlaceThere s) deeds
+
+-- a class is entered; a native is called
+abbrev pub enters_class : Deed → Bool
+enters_class (SetStatus c InProgress) = true
+enters_class _ = false
+
+abbrev pub calls_native : Deed → Bool
+calls_native (CallNative m) = true
+calls_native _ = false
+
+-- one deed of a list passes the test at most
+abbrev pub at_most_one : (Deed → Bool) → List Deed → Bool
+at_most_one test [] = true
+at_most_one test (d ∷ ds) = if test d then not (list_any test ds) else at_most_one test ds
+
+-- a step enters one class at most, and calls one native at most
+pub record StepsEnterAndCallOnce : Type 0 where
+  pub enters : (p : Program) (s : State) (deeds : List Deed) → deeds_of p s ≡ Some deeds → at_most_one enters_class deeds ≡ true
+  pub calls : (p : Program) (s : State) (deeds : List Deed) → deeds_of p s ≡ Some deeds → at_most_one calls_native deeds ≡ true
 
 -- an object is made
 abbrev pub makes : Deed → Bool

@@ -5,7 +5,7 @@
 ghost use Rattle.pi_machine.specs.Laws.{EndIsUnique, RunEndIsUnique, OutputGrows, EndStays};
 ghost use Rattle.pi_machine.specs.StepLaws.{DeedsChangeOnly, StepsKeepStatuses, StartRecordsRun, StatusesStay};
 ghost use Rattle.pi_machine.specs.StepLaws.{RowsKeepWithin, RowWritesAreInside, LooksAreTrue, RestHasNoStep, EndedIsAtRest, EndedHasNoStep, LongerRunEndsSame};
-ghost use Rattle.pi_machine.specs.StepForms.{WritesHaveOneTarget, StaticReadsHaveOneClass, StepsMakeFirst, StepWritesAreInside};
+ghost use Rattle.pi_machine.specs.StepForms.{WritesHaveOneTarget, StaticReadsHaveOneClass, StepsEnterAndCallOnce, StepsMakeFirst, StepWritesAreInside};
 ghost use Rattle.pi_machine.specs.Images.{ImageBytesGrow};
 ghost use Rattle.pi_machine.specs.Sound.{StartsAreSound, StepsKeepSound, FewBytesAreShort};
 ghost use Rattle.pi_machine.specs.Reading.{ThingsStandBetween, ReferencesGoOnAlike};
@@ -74,6 +74,11 @@ pub fn writes_have_one_target()
 /// All statics that a step reads are of one class.
 pub fn static_reads_have_one_class()
     ensures { StaticReadsHaveOneClass }
+{}
+
+/// A step enters one class at most, and calls one native at most.
+pub fn steps_enter_and_call_once()
+    ensures { StepsEnterAndCallOnce }
 {}
 
 /// A step makes one object at most, before it touches any literal.

@@ -22,7 +22,7 @@ use Rattle.pi_machine.specs.Throwing.{throws, next_made, is_of_type}
 use Rattle.pi_machine.specs.Codes.{code_of}
 use Rattle.pi_machine.specs.Natives.{Native, Outcome, Gives, Fails, native_does}
 use Rattle.pi_machine.specs.Rows.Calls.{argument_kinds, arguments_fit, entry_frame, calls_frame, native_ends, native_at, is_abstract, enters_method, call_row, dispatch_from, receiver_class, virtual_row, code_class, interface_row, with_receiver, invoked, with_arguments, invoke_row}
-use Rattle.pi_machine.proofs.RowDeeds.Words.{Does, RowFacts, ValuedLists, stuck, these, either, if_found, by_ref, registers_values, thrown}
+use Rattle.pi_machine.proofs.RowDeeds.Words.{Does, RowFacts, ValuedLists, ValuedCalls, stuck, these, either, if_found, by_ref, registers_values, thrown}
 use Rattle.pi_machine.proofs.RowDeeds.Natives.{AllBefore, native_deeds}
 
 -- the registers of a new frame: zeros and the arguments
@@ -38,20 +38,20 @@ entry_values V zero_is m (Some code) args frame x e = by_count (length args == c
     by_count false h = cc
 
 module _ {p : Program} {s : State} {f : Frame} {V : Option Ref → Value → Type 0} {O : Object → Type 0} {U : List ℕ → Type 0}
-    {Ends : Option Ref → List Deed → Type 0} {After : ℕ → List Deed → Type 0} {All : List Deed → Type 0}
-    (g : RowFacts p s f V O U) (k : ValuedLists p s f V O Ends After All) where
-  after_native : (m : ℕ) (deeds : List Deed) (class : Known) → ((c : ℕ) → All (deeds ++ Make (new_instance p c) ∷ Pend (next_made s) ∷ []))
+    {Ends : Option Ref → List Deed → Type 0} {After : ℕ → List Deed → Type 0} {Inner All : List Deed → Type 0}
+    (g : RowFacts p s f V O U) (k : ValuedLists p s f V O Ends After All) (calls : ValuedCalls p s f V O Ends After Inner All) where
+  after_native : (m : ℕ) (deeds : List Deed) (class : Known) → ((c : ℕ) → Inner (deeds ++ Make (new_instance p c) ∷ Pend (next_made s) ∷ []))
       → Does All (option_map (λ ds. CallNative m ∷ deeds ++ ds) (throws p s class))
   after_native m deeds class a = by_class (class_named p (descriptor_of class))
     where
       by_class : (c : Option ℕ)
           → Does All (option_map (λ ds. CallNative m ∷ deeds ++ ds) (option_map (λ c. Make (new_instance p c) ∷ Pend (next_made s) ∷ []) c))
       by_class None = stuck
-      by_class (Some c) = these (k.call_native m _ (a c))
+      by_class (Some c) = these (calls.call_native m _ (a c))
 
-  native_end_deeds : (units m : ℕ) (o : Option Outcome) → AllBefore p s f All o → Does All (native_ends p s f units m o)
+  native_end_deeds : (units m : ℕ) (o : Option Outcome) → AllBefore p s f Inner o → Does All (native_ends p s f units m o)
   native_end_deeds units m None e = stuck
-  native_end_deeds units m (Some (Gives deeds held)) e = these (k.call_native m _ (e.each units))
+  native_end_deeds units m (Some (Gives deeds held)) e = these (calls.call_native m _ (e.each units))
   native_end_deeds units m (Some (Fails deeds class)) e = after_native m deeds class e.each
 
   frame_deeds : (m : ℕ) (code : Option Code) (args : List Value) → EachOf (V None) args → Does All (calls_frame (entry_frame m code args))
@@ -63,7 +63,7 @@ module _ {p : Program} {s : State} {f : Frame} {V : Option Ref → Value → Typ
 
   enter_deeds : (units m : ℕ) (args : List Value) (native : Option Native) → EachOf (V None) args
       → Does All (enters_method p s f units m args native)
-  enter_deeds units m args (Some native) x = native_end_deeds units m (native_does p s native args) (native_deeds g k native args)
+  enter_deeds units m args (Some native) x = native_end_deeds units m (native_does p s native args) (native_deeds g calls.inner native args)
   enter_deeds units m args None x = frame_deeds m (code_of p m) args x
 
   call_deeds : (units : ℕ) (args : List Value) (i : Option Member) → EachOf (V None) args → Does All (call_row p s f units args i)

@@ -122,7 +122,6 @@ pub record ValuedLists (p : Program) (s : State) (f : Frame) (V : Option Ref →
   pub saw : (look : Look) (ds : List Deed) → IsSeen p s look → reads_static (Saw look) ≡ false → All ds → All (Saw look ∷ ds)
   pub saw_static : (c field : ℕ) (v : Value) (ds : List Deed) → IsSeen p s (OfStatic field v) → IsFieldOf p c field → Ends None ds → All (Saw (OfStatic field v) ∷ ds)
   pub reads : (n : ℕ) (ds : List Deed) → All ds → All (Reads n ∷ ds)
-  pub call_native : (m : ℕ) (ds : List Deed) → All ds → All (CallNative m ∷ ds)
   pub print : (bytes : List ℕ) (ds : List Deed) → All ds → All (Print bytes ∷ ds)
   pub set_static : (c field : ℕ) (v : Value) (ds : List Deed) → IsFieldOf p c field → field < length s.statics → V None v → Ends None ds → All (SetStatic field v ∷ ds)
   pub writes : (n : ℕ) (ds : List Deed) → After n ds → All (Writes n ∷ ds)
@@ -131,6 +130,12 @@ pub record ValuedLists (p : Program) (s : State) (f : Frame) (V : Option Ref →
   pub saw_then : (n : ℕ) (look : Look) (ds : List Deed) → IsSeen p s look → reads_static (Saw look) ≡ false → After n ds → After n (Saw look ∷ ds)
   pub make_then : (n : ℕ) (o : Object) (ds : List Deed) → O o → Ends (Some (next_made s)) ds → After n (Make o ∷ ds)
   pub rest_then : (n : ℕ) (ds : List Deed) → Ends None ds → After n ds
+
+-- what follows the call of a native has a property of its own, `Inner`
+pub record ValuedCalls (p : Program) (s : State) (f : Frame) (V : Option Ref → Value → Type 0) (O : Object → Type 0)
+    (Ends : Option Ref → List Deed → Type 0) (After : ℕ → List Deed → Type 0) (Inner All : List Deed → Type 0) : Type 0 where
+  pub inner : ValuedLists p s f V O Ends After Inner
+  pub call_native : (m : ℕ) (ds : List Deed) → Inner ds → All (CallNative m ∷ ds)
 
 -- where nothing is asked of values
 abbrev pub AnyValue : Option Ref → Value → Type 0
@@ -189,7 +194,6 @@ valued k = record {
   saw = λ look ds e is h. k.saw look ds e is h;
   saw_static = λ c field v ds e is h. k.saw_static c field v ds e is h;
   reads = λ n ds h. k.reads n ds h;
-  call_native = λ m ds h. k.call_native m ds h;
   print = λ bytes ds h. k.print bytes ds h;
   set_static = λ c field v ds is e x h. k.set_static c field v ds is e h;
   writes = λ n ds h. k.writes n ds h;
@@ -199,6 +203,10 @@ valued k = record {
   make_then = λ n o ds x h. k.make_then n o ds h;
   rest_then = λ n ds h. k.rest_then n ds h;
 }
+
+abbrev pub valued_calls : {p : Program} {s : State} {f : Frame} {Ends : List Deed → Type 0} {After : ℕ → List Deed → Type 0} {All : List Deed → Type 0}
+    → RowLists p s f Ends After All → ValuedCalls p s f AnyValue AnyObject (λ new. Ends) After All All
+valued_calls k = record { inner = valued k; call_native = λ m ds h. k.call_native m ds h }
 
 -- a property of each deed that rows do, kind by kind
 pub record RowKinds (p : Program) (s : State) (f : Frame) (P : Deed → Type 0) : Type 0 where
