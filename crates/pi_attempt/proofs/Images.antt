@@ -20,7 +20,7 @@ use Rattle.pi_attempt.specs.Fold.{Line, Held, Lazy}
 use Rattle.pi_attempt.proofs.Helpers.{line, Reports}
 
 -- file 1 has A with x, file 2 has B whose initialiser writes A.x, and main prints A.x after a use of B
-abbrev a_and_b : Program
+abbrev pub a_and_b : Program
 a_and_b =
     with_file (chain (codes "LA;" ∷ codes "LB;" ∷ codes "x" ∷ codes "y" ∷ []) (class 1 (own 0) 1 (Some object) [] (static_field (own 2) int ∷ []) [] ∷ []))
     (codes "LM;" ∷ []) []

@@ -5,4 +5,7 @@ mod Images
 mod Limits
 mod Ahead
 pub mod Once
+mod RefusalExamples
+pub mod Refusals
+mod Stuck
 pub mod Turns

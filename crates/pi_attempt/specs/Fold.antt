@@ -49,12 +49,12 @@ first_needed selected w _ = None
 
 -- What follows an attempt of the class at the front of those that wait. Done: the new state is kept. Another class that
 -- may begin is needed: that one is attempted before it. Another end: the old state is kept.
-abbrev pub settle_lazy : (List ℕ → Progress → Option Progress) → ℕ → List ℕ → Progress → Why → Option ℕ → Option Progress
+abbrev pub settle_lazy : {A : Type 0} → (List ℕ → Progress → Option A) → ℕ → List ℕ → Progress → Why → Option ℕ → Option A
 settle_lazy go c waiting w why None = go waiting (answered c (Lazy why) w)
 settle_lazy go c waiting w why (Some d) = go (d ∷ c ∷ waiting) (begins d w)
 
 -- the turn of the class at the front, by how its attempt ended
-abbrev pub settle_by : (List ℕ → Progress → Option Progress) → List ℕ → ℕ → List ℕ → Progress → Option Watched → Option Progress
+abbrev pub settle_by : {A : Type 0} → (List ℕ → Progress → Option A) → List ℕ → ℕ → List ℕ → Progress → Option Watched → Option A
 settle_by go selected c waiting w None = None
 settle_by go selected c waiting w (Some (Committed after steps)) = go waiting (answered c (Held steps) (record w { state = after }))
 settle_by go selected c waiting w (Some (Stopped why)) = settle_lazy go c waiting w why (first_needed selected w why)
@@ -65,6 +65,17 @@ abbrev pub settle : Program → ℕ → Line → ℕ → List ℕ → Progress �
 settle p file line turns [] w = Some w
 settle p file line zero (c ∷ waiting) w = None
 settle p file line (suc turns) (c ∷ waiting) w = settle_by (settle p file line turns) line.selected c waiting w (watch p c file line.budget w.state)
+
+-- a moment between two turns: the classes that wait, the one to attempt next at the front, and what stands
+pub record Waits : Type 0 where
+  pub waiting : List ℕ
+  pub progress : Progress
+
+-- the moment after that many turns, where the fold makes them
+abbrev pub turns_after : Program → ℕ → Line → ℕ → List ℕ → Progress → Option Waits
+turns_after p file line zero waiting w = Some (record { waiting = waiting; progress = w })
+turns_after p file line (suc turns) [] w = None
+turns_after p file line (suc turns) (c ∷ waiting) w = settle_by (turns_after p file line turns) line.selected c waiting w (watch p c file line.budget w.state)
 
 -- a status is that of a class that is done
 abbrev pub is_done : Option ClassState → Bool
@@ -93,9 +104,13 @@ abbrev pub over_lines : Program → ℕ → List Line → Progress → Option Pr
 over_lines p file [] w = Some w
 over_lines p file (line ∷ lines) w = option_and_then (over_lines p (file + 1) lines) (select_all p file line line.selected w)
 
+-- before the first line: the state in which nothing has run, no answers, and no attempt has begun
+abbrev pub no_progress : Program → Progress
+no_progress p = record { state = first_state p; answers = []; begun = [] }
+
 -- Initialising ahead of time, from the state in which nothing has run. None where the machine is stuck in an attempt.
 abbrev pub preinitialise : Program → List Line → Option Progress
-preinitialise p lines = over_lines p 0 lines (record { state = first_state p; answers = []; begun = [] })
+preinitialise p lines = over_lines p 0 lines (no_progress p)
 
 -- all selected classes, in the order of the lines
 abbrev pub all_selected : List Line → List ℕ

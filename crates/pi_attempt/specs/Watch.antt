@@ -1,19 +1,18 @@
 -- The attempt to initialise one class ahead of time: a run of the machine that enters the class, watched before each
 -- further step for what an image could not keep. docs/transaction.md states the same rules. All of it is our own.
-use Rattle.std.specs.Prelude.{ℕ, zero, suc, ◌+◌, ◌-◌, ◌==◌, ◌&&◌, not, nat_lt, List, [], ◌∷◌, sum_by, slice_get, Option, Some, None, Bool, true, false, if◌then◌else◌, option_map, option_and_then}
+use Rattle.std.specs.Prelude.{ℕ, zero, suc, ◌+◌, ◌-◌, ◌==◌, ◌&&◌, not, nat_lt, List, [], ◌∷◌, slice_get, Option, Some, None, Bool, true, false, if◌then◌else◌, option_map, option_and_then}
 use Rattle.std.specs.List.{list_any}
-use Rattle.pi_model.specs.declared.reason.ClassState.TheVariants.{InProgress, Erroneous}
+use Rattle.pi_model.specs.declared.reason.ClassState.TheVariants.{Erroneous}
 use Rattle.pi_model.specs.declared.describe.ClassDesc.{ClassDesc}
 use Rattle.pi_model.specs.Program.{Program}
-use Rattle.pi_model.specs.Values.{Num, Text}
-use Rattle.pi_model.specs.Search.{Member, class_at, field_of, method_of, or_else}
-use Rattle.pi_model.specs.Sizes.{object_bytes}
-use Rattle.pi_model.specs.Texts.{units_of}
+use Rattle.pi_model.specs.Values.{Num}
+use Rattle.pi_model.specs.Search.{class_at, or_else}
 use Rattle.pi_machine.specs.State.{State, Thing, Made, Touched, Entry}
-use Rattle.pi_machine.specs.Deeds.{Deed, Saw, OfStatic, Writes, SetStatic, SetStatus, CallNative, do_all}
+use Rattle.pi_machine.specs.Deeds.{Deed, Saw, OfStatic, Writes, SetStatic, SetStatus, do_all}
 use Rattle.pi_machine.specs.Objects.{shape_at}
-use Rattle.pi_machine.specs.Natives.{Native, is_pure, type_name_of}
-use Rattle.pi_machine.specs.Rows.Calls.{native_at}
+use Rattle.pi_machine.specs.Natives.{type_name_of}
+use Rattle.pi_machine.specs.Images.{image_bytes}
+use Rattle.pi_machine.specs.Acts.{first_of, entered_by, field_class, impure_call}
 use Rattle.pi_machine.specs.Initialisation.{enters}
 use Rattle.pi_machine.specs.Operands.{Deeds}
 use Rattle.pi_machine.specs.Step.{deeds_of}
@@ -39,20 +38,6 @@ image_limit = 33554432
 -- the words that the frames of an attempt may have
 abbrev pub frame_limit : ℕ
 frame_limit = 262144
-
--- the first answer that a deed of a list gives
-abbrev pub first_of : {A : Type 0} → (Deed → Option A) → List Deed → Option A
-first_of ask [] = None
-first_of ask (d ∷ ds) = or_else (ask d) (first_of ask ds)
-
--- a class that is entered
-abbrev pub entered_by : Deed → Option ℕ
-entered_by (SetStatus c InProgress) = Some c
-entered_by _ = None
-
--- the class that declares the field of a number
-abbrev pub field_class : Program → ℕ → Option ℕ
-field_class p f = option_map (λ (i : Member). i.class) (field_of p f)
 
 -- the name of a class of an earlier file
 abbrev pub earlier_class : ℕ → Option ClassDesc → Option ℕ
@@ -90,27 +75,6 @@ other_write p c _ = None
 abbrev pub other_read : Program → ℕ → Deed → Option ℕ
 other_read p c (Saw (OfStatic f v)) = if_other c (field_class p f)
 other_read p c _ = None
-
--- a native that is called and is not pure
-abbrev pub if_impure : ℕ → Option Native → Option ℕ
-if_impure m None = None
-if_impure m (Some native) = if is_pure native then None else Some m
-
--- a call of a native that is not pure
-abbrev pub impure_call : Program → Deed → Option ℕ
-impure_call p (CallNative m) = if_impure m (option_and_then (native_at p) (method_of p m))
-impure_call p _ = None
-
--- the size of a thing that is for the image of a file
-abbrev pub bytes_for : Program → ℕ → Thing → ℕ
-bytes_for p file (Made (Some other) o) = if other == file then object_bytes p o else 0
-bytes_for p file (Made None o) = 0
-bytes_for p file (Touched (Some other) n) = if other == file then object_bytes p (Text (units_of p n)) else 0
-bytes_for p file (Touched None n) = 0
-
--- the object bytes of the image of a file
-abbrev pub image_bytes : Program → ℕ → State → ℕ
-image_bytes p file s = sum_by (bytes_for p file) s.things
 
 -- a throwable reaches the record of a class, which is left with the class erroneous
 abbrev pub leaves_record : ℕ → Deed → Bool

@@ -3,14 +3,19 @@
 // body to run.
 #![tactic(auto)]
 
-ghost use Rattle.pi_attempt.specs.Laws.{EachAnsweredOnce, EndsUnlessStuck};
+ghost use Rattle.pi_attempt.specs.Laws.{EachAnsweredOnce, EndsUnlessStuck, ReasonIsFirstRefusal};
 
 /// Each selected class has one answer, and no other class has any.
 pub fn each_answered_once()
     ensures { EachAnsweredOnce }
 {}
 
-/// The fold over the selections has a result unless the machine is stuck in an attempt.
+/// The fold over the selections has no result exactly where it comes to an attempt in which the machine is stuck.
 pub fn ends_unless_stuck()
     ensures { EndsUnlessStuck }
+{}
+
+/// The reason that ends an attempt before a step is the first act of the step that is refused, or what is beyond acts.
+pub fn reason_is_first_refusal()
+    ensures { ReasonIsFirstRefusal }
 {}

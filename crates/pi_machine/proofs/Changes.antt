@@ -21,7 +21,7 @@ get_set_other (x ∷ xs) (suc i) y (suc j) e = get_set_other xs i y j (λ q. e (
 pub get_set_apart : {A : Type 0} (xs : List A) (i : ℕ) (y : A) (j : ℕ) → (j == i) ≡ false → slice_get (slice_set xs i y) j ≡ slice_get xs j
 get_set_apart xs i y j e = get_set_other xs i y j (eqb-false j i e)
 
-length_set : {A : Type 0} (xs : List A) (i : ℕ) (y : A) → length (slice_set xs i y) ≡ length xs
+pub length_set : {A : Type 0} (xs : List A) (i : ℕ) (y : A) → length (slice_set xs i y) ≡ length xs
 length_set [] i y = refl
 length_set (x ∷ xs) zero y = refl
 length_set (x ∷ xs) (suc i) y = ap (λ n. suc n) (length_set xs i y)
@@ -37,12 +37,12 @@ get_changed : {A : Type 0} (change : A → A) (i : ℕ) (xs : List A) (n : ℕ) 
 get_changed change i xs n None e = refl
 get_changed change i xs n (Some x) e = get_set_apart xs i (change x) n e
 
-length_changed : {A : Type 0} (change : A → A) (i : ℕ) (xs : List A) (x : Option A) → length (put_changed change i xs x) ≡ length xs
+pub length_changed : {A : Type 0} (change : A → A) (i : ℕ) (xs : List A) (x : Option A) → length (put_changed change i xs x) ≡ length xs
 length_changed change i xs None = refl
 length_changed change i xs (Some x) = length_set xs i (change x)
 
 -- what a change leaves of an element, the list keeps at each place
-map_set : {A B : Type 0} (look : Option A → B) (xs : List A) (i : ℕ) (y x : A) (n : ℕ) → slice_get xs i ≡ Some x
+pub map_set : {A B : Type 0} (look : Option A → B) (xs : List A) (i : ℕ) (y x : A) (n : ℕ) → slice_get xs i ≡ Some x
     → look (Some y) ≡ look (Some x) → look (slice_get (slice_set xs i y) n) ≡ look (slice_get xs n)
 map_set look [] i y x n e k = refl
 map_set look (z ∷ xs) zero y x zero e k = k ∙ sym (ap look e)
@@ -50,7 +50,7 @@ map_set look (z ∷ xs) zero y x (suc n) e k = refl
 map_set look (z ∷ xs) (suc i) y x zero e k = refl
 map_set look (z ∷ xs) (suc i) y x (suc n) e k = map_set look xs i y x n e k
 
-map_changed : {A B : Type 0} (look : Option A → B) (change : A → A) → ((x : A) → look (Some (change x)) ≡ look (Some x))
+pub map_changed : {A B : Type 0} (look : Option A → B) (change : A → A) → ((x : A) → look (Some (change x)) ≡ look (Some x))
     → (i : ℕ) (xs : List A) (n : ℕ) (x : Option A) → slice_get xs i ≡ x
     → look (slice_get (put_changed change i xs x) n) ≡ look (slice_get xs n)
 map_changed look change keeps i xs n None e = refl

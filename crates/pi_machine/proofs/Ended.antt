@@ -1,28 +1,41 @@
--- What is ended stays ended.
-use Rattle.std.proofs.Common.{◌≡◌, ℕ, zero, suc, ◌+◌, List, [], ◌∷◌, Option, Some, None, Bool, true, false, refl, subst, arith}
+-- What is at rest makes no step, and what is ended is at rest and stays ended.
+use Rattle.std.proofs.Common.{◌≡◌, ℕ, zero, suc, ◌+◌, List, [], ◌∷◌, Option, Some, None, Bool, true, false, ◌||◌, is_none, refl, subst, arith}
 use Rattle.pi_model.specs.Program.{Program}
 use Rattle.pi_model.specs.Values.{Ref}
 use Rattle.pi_machine.specs.State.{State, Entry}
 use Rattle.pi_machine.specs.Initialisation.{need_of, needed_to_start, by_need, start_move}
-use Rattle.pi_machine.specs.Step.{move_of}
+use Rattle.pi_machine.specs.Step.{move_of, rests_by}
 use Rattle.pi_machine.specs.Ends.{End, Finish, Setting, Tally, Next, Ends, Goes, Sticks, next, end_by, goes_on, run_by}
-use Rattle.pi_machine.specs.StepLaws.{EndedHasNoStep, LongerRunEndsSame}
+use Rattle.pi_machine.specs.StepLaws.{RestHasNoStep, EndedIsAtRest, EndedHasNoStep, LongerRunEndsSame}
 
 module _ (p : Program) (s : State) where
-  started_once : (started : Bool) (main : Option ℕ) → started ≡ true
+  no_start : (started : Bool) (main : Option ℕ) → (started || is_none main) ≡ true
       → by_need p s (needed_to_start p started main) (start_move p s started main) ≡ None
-  started_once true main e = refl
-  started_once false main e = cc
+  no_start true main h = refl
+  no_start false None h = refl
+  no_start false (Some m) h = cc
 
-  over_by : (pending : Option Ref) (stack : List Entry) (started : Bool) (e : End)
-      → s.started ≡ started → end_by p s pending stack started ≡ Some e → by_need p s (need_of p s pending stack) (move_of p s pending stack) ≡ None
-  over_by pending (x ∷ below) started e is h = cc
-  over_by (Some t) [] started e is h = refl
-  over_by None [] true e is h = started_once s.started s.main is
-  over_by None [] false e is h = cc
+  no_move : (pending : Option Ref) (stack : List Entry) → rests_by pending stack s.started s.main ≡ true
+      → by_need p s (need_of p s pending stack) (move_of p s pending stack) ≡ None
+  no_move pending (x ∷ below) h = cc
+  no_move (Some t) [] h = refl
+  no_move None [] h = no_start s.started s.main h
+
+  ended_rests : (pending : Option Ref) (stack : List Entry) (started : Bool) (main : Option ℕ) (e : End)
+      → end_by p s pending stack started ≡ Some e → rests_by pending stack started main ≡ true
+  ended_rests pending (x ∷ below) started main e h = cc
+  ended_rests (Some t) [] started main e h = refl
+  ended_rests None [] true main e h = refl
+  ended_rests None [] false main e h = cc
+
+pub rest_has_no_step : RestHasNoStep
+rest_has_no_step = λ p s h. no_move p s s.pending s.stack h
+
+pub ended_is_at_rest : EndedIsAtRest
+ended_is_at_rest = λ p s e h. ended_rests p s s.pending s.stack s.started s.main e h
 
 pub ended_has_no_step : EndedHasNoStep
-ended_has_no_step = λ p s e h. over_by p s s.pending s.stack s.started e refl h
+ended_has_no_step = λ p s e h. rest_has_no_step p s (ended_is_at_rest p s e h)
 
 module _ (p : Program) (given : Setting) (m : ℕ) where
   longer_next : (n : ℕ) (f : Finish) (s : State) (t : Tally)

@@ -1,10 +1,14 @@
 -- Laws with their proofs, and worked examples.
+mod ActExamples
 pub mod Changes
 mod Costs
+pub mod Each
 pub mod Ended
+pub mod FieldNumbers
 mod Five
 mod Handlers
 mod Initialising
+pub mod Images
 mod InsnArrays
 mod InsnBranches
 mod InsnCalls
@@ -18,6 +22,9 @@ mod Mains
 pub mod ManySteps
 mod NativeCalls
 mod NativeCopies
+mod Premises
+pub mod Readings
+mod Rests
 pub mod RowDeeds
 mod RowExamples
 mod RunEnds
@@ -25,5 +32,11 @@ pub mod RunLaws
 pub mod Sample
 pub mod Statuses
 pub mod StepDeeds
+pub mod StepForms
+mod SoundExamples
+pub mod SoundStarts
+pub mod SoundValues
+pub mod Sounds
 mod Stuck
 pub mod Truths
+pub mod WordResults

@@ -1,14 +1,18 @@
 -- What holds of all deeds of the row of an instruction: a property of every kind of deed that rows do holds of each deed
 -- of each row.
-use Rattle.std.proofs.Common.{◌≡◌, ℕ, List, [], ◌∷◌, Option, Some, None, Bool, true, false, refl, subst}
+use Rattle.std.proofs.Common.{◌≡◌, ℕ, List, [], ◌∷◌, Option, Some, None, Bool, true, false, refl, subst, map, length, ◌==◌}
 use Rattle.pi_model.specs.declared.insn.Insn.{Insn}
 use Rattle.pi_model.specs.declared.insn.Insn.TheVariants.{Nop, Move, MoveResult, MoveException, ReturnVoid, Return, Const, ConstWide, ConstString, ConstClass, Monitor, CheckCast, InstanceOf, ArrayLength, NewInstance, NewArray, Filled, FillArray, Throw, Goto, Switch, CmpLong, If, IfZ, Aget, Aput, Iget, Iput, Sget, Sput, Invoke, Unary, Binary, BinaryLit}
 use Rattle.pi_model.specs.Program.{Program}
-use Rattle.pi_model.specs.Values.{Word, Long}
+use Rattle.pi_model.specs.Values.{Ref, Value, Word, Long, Object, Array}
+use Rattle.pi_model.specs.Sizes.{width_of}
+use Rattle.pi_machine.specs.Rows.Arrays.{item_value}
+use Rattle.pi_machine.specs.Sound.{EachOf}
 use Rattle.pi_machine.specs.State.{State, Frame, Nothing}
-use Rattle.pi_machine.specs.Deeds.{Deed}
+use Rattle.pi_machine.specs.Deeds.{Deed, Jump}
 use Rattle.pi_machine.specs.Rows.{row}
-use Rattle.pi_machine.proofs.RowDeeds.Words.{AllDeeds, RowKinds, the_deeds, each_fails, these, goes, sets}
+use Rattle.pi_machine.proofs.Each.{each_any}
+use Rattle.pi_machine.proofs.RowDeeds.Words.{Does, RowFacts, ValuedLists, ValuedCalls, RowLists, RowKinds, AnyValue, AnyObject, any_facts, valued, valued_calls, of_each, on_some, each_fails, these, goes, sets}
 use Rattle.pi_machine.proofs.RowDeeds.Numbers.{move_deeds, move_result_deeds, move_exception_deeds, returning, return_deeds, const_string_deeds, const_class_deeds, unary_deeds, binary_deeds, binary_literal_deeds, compare_long_deeds, if_deeds, if_zero_deeds, switch_deeds}
 use Rattle.pi_machine.proofs.RowDeeds.Objects.{new_instance_deeds, monitor_deeds, check_cast_deeds, instance_of_deeds, throw_deeds, iget_deeds, iput_deeds, sget_deeds, sput_deeds, array_length_deeds, new_array_deeds, filled_row_deeds, fill_array_deeds, aget_deeds, aput_deeds}
 use Rattle.pi_machine.proofs.RowDeeds.Calls.{invoke_deeds}
@@ -19,41 +23,73 @@ pub mod Objects
 pub mod Natives
 pub mod Calls
 
-pub row_deeds : {p : Program} {s : State} {f : Frame} {P : Deed → Type 0} (k : RowKinds p s f P) (units : ℕ) (i : Insn) → AllDeeds P (row p s f units i)
-row_deeds k units Nop = goes k units
-row_deeds k units (Move kd a b) = move_deeds k units kd a b
-row_deeds k units (MoveResult kd a) = move_result_deeds k units _ kd a refl
-row_deeds k units (MoveException a) = move_exception_deeds k units _ a refl
-row_deeds k units ReturnVoid = returning k Nothing
-row_deeds k units (Return kd a) = return_deeds k kd a
-row_deeds k units (Const a v) = sets k units a (Word v)
-row_deeds k units (ConstWide a v) = sets k units a (Long v)
-row_deeds k units (ConstString a n) = const_string_deeds k units a n
-row_deeds k units (ConstClass a t) = const_class_deeds k units a t
-row_deeds k units (Monitor a) = monitor_deeds k units a
-row_deeds k units (CheckCast a t) = check_cast_deeds k units a t
-row_deeds k units (InstanceOf a b t) = instance_of_deeds k units a b t
-row_deeds k units (ArrayLength a b) = array_length_deeds k units a b
-row_deeds k units (NewInstance a t) = new_instance_deeds k units a t
-row_deeds k units (NewArray a b t) = new_array_deeds k units a b t
-row_deeds k units (Filled t regs) = filled_row_deeds k units t regs
-row_deeds k units (FillArray a width items) = fill_array_deeds k units a width items
-row_deeds k units (Throw a) = throw_deeds k a
-row_deeds k units (Goto to) = these (k.jump to, tt)
-row_deeds k units (Switch a cases) = switch_deeds k units a cases
-row_deeds k units (CmpLong a b c) = compare_long_deeds k units a b c
-row_deeds k units (If cond a b to) = if_deeds k units cond a b to
-row_deeds k units (IfZ cond a to) = if_zero_deeds k units cond a to
-row_deeds k units (Aget kd a b c) = aget_deeds k units kd a b c
-row_deeds k units (Aput kd a b c) = aput_deeds k units kd a b c
-row_deeds k units (Iget kd a b r) = iget_deeds k units kd a b r
-row_deeds k units (Iput kd a b r) = iput_deeds k units kd a b r
-row_deeds k units (Sget kd a r) = sget_deeds k units kd a r
-row_deeds k units (Sput kd a r) = sput_deeds k units kd a r
-row_deeds k units (Invoke how m regs) = invoke_deeds k units how m regs
-row_deeds k units (Unary op a b) = unary_deeds k units op a b
-row_deeds k units (Binary op a b c) = binary_deeds k units op a b c
-row_deeds k units (BinaryLit op a b v) = binary_literal_deeds k units op a b v
+-- the constants of an instruction as values
+abbrev pub OnConstants : (Value → Type 0) → (Object → Type 0) → Insn → Type 0
+OnConstants V O (Const a v) = V (Word v)
+OnConstants V O (ConstWide a v) = V (Long v)
+OnConstants V O (BinaryLit op a b v) = V (Word v)
+OnConstants V O (Filled t regs) = (vs : List Value) → length vs ≡ length regs → EachOf V vs → O (Array t.0 vs)
+OnConstants V O (FillArray a width items) = (letter : ℕ) → (width_of letter == width) ≡ true → EachOf V (map (item_value letter) items)
+OnConstants V O _ = Unit {0}
+
+module _ {p : Program} {s : State} {f : Frame} {V : Option Ref → Value → Type 0} {O : Object → Type 0} {U : List ℕ → Type 0}
+    {Ends : Option Ref → List Deed → Type 0} {After : ℕ → List Deed → Type 0} {Inner All : List Deed → Type 0}
+    (g : RowFacts p s f V O U) (k : ValuedLists p s f V O Ends After All) (calls : ValuedCalls p s f V O Ends After Inner All) where
+  pub valued_rows : (units : ℕ) (i : Insn) → OnConstants (V None) O i → Does All (row p s f units i)
+  valued_rows units Nop cs = goes g k units
+  valued_rows units (Move kd a b) cs = move_deeds g k units kd a b
+  valued_rows units (MoveResult kd a) cs = move_result_deeds g k units _ kd a refl
+  valued_rows units (MoveException a) cs = move_exception_deeds g k units _ a refl
+  valued_rows units ReturnVoid cs = returning g k Nothing tt
+  valued_rows units (Return kd a) cs = return_deeds g k kd a
+  valued_rows units (Const a v) cs = sets g k units a (Word v) cs
+  valued_rows units (ConstWide a v) cs = sets g k units a (Long v) cs
+  valued_rows units (ConstString a n) cs = const_string_deeds g k units a n
+  valued_rows units (ConstClass a t) cs = const_class_deeds g k units a t
+  valued_rows units (Monitor a) cs = monitor_deeds g k units a
+  valued_rows units (CheckCast a t) cs = check_cast_deeds g k units a t
+  valued_rows units (InstanceOf a b t) cs = instance_of_deeds g k units a b t
+  valued_rows units (ArrayLength a b) cs = array_length_deeds g k units a b
+  valued_rows units (NewInstance a t) cs = new_instance_deeds g k units a t
+  valued_rows units (NewArray a b t) cs = new_array_deeds g k units a b t
+  valued_rows units (Filled t regs) cs = filled_row_deeds g k units t regs cs
+  valued_rows units (FillArray a width items) cs = fill_array_deeds g k units a width items cs
+  valued_rows units (Throw a) cs = throw_deeds g k a
+  valued_rows units (Goto to) cs = these (k.rest (Jump to ∷ []) (k.jump None to [] (k.none None)))
+  valued_rows units (Switch a cases) cs = switch_deeds g k units a cases
+  valued_rows units (CmpLong a b c) cs = compare_long_deeds g k units a b c
+  valued_rows units (If cond a b to) cs = if_deeds g k units cond a b to
+  valued_rows units (IfZ cond a to) cs = if_zero_deeds g k units cond a to
+  valued_rows units (Aget kd a b c) cs = aget_deeds g k units kd a b c
+  valued_rows units (Aput kd a b c) cs = aput_deeds g k units kd a b c
+  valued_rows units (Iget kd a b r) cs = iget_deeds g k units kd a b r
+  valued_rows units (Iput kd a b r) cs = iput_deeds g k units kd a b r
+  valued_rows units (Sget kd a r) cs = sget_deeds g k units kd a r
+  valued_rows units (Sput kd a r) cs = sput_deeds g k units kd a r
+  valued_rows units (Invoke how m regs) cs = invoke_deeds g k calls units how m regs
+  valued_rows units (Unary op a b) cs = unary_deeds g k units op a b
+  valued_rows units (Binary op a b c) cs = binary_deeds g k units op a b c
+  valued_rows units (BinaryLit op a b v) cs = binary_literal_deeds g k units op a b v cs
+
+-- nothing is asked of constants
+any_items : (letter : ℕ) (items : List ℕ) → EachOf (AnyValue None) (map (item_value letter) items)
+any_items letter items = each_any (map (item_value letter) items)
+
+pub any_constants : (i : Insn) → OnConstants (AnyValue None) AnyObject i
+any_constants (Const a v) = tt
+any_constants (ConstWide a v) = tt
+any_constants (BinaryLit op a b v) = tt
+any_constants (Filled t regs) = λ vs e x. tt
+any_constants (FillArray a width items) = λ letter e. any_items letter items
+any_constants _ = tt
+
+pub row_lists : {p : Program} {s : State} {f : Frame} {Ends : List Deed → Type 0} {After : ℕ → List Deed → Type 0} {All : List Deed → Type 0}
+    (k : RowLists p s f Ends After All) (units : ℕ) (i : Insn) → Does All (row p s f units i)
+row_lists {p} {s} {f} k units i = valued_rows (any_facts p s f) (valued k) (valued_calls k) units i (any_constants i)
+
+-- a property of each deed of a row
+pub row_deeds : {p : Program} {s : State} {f : Frame} {P : Deed → Type 0} (k : RowKinds p s f P) (units : ℕ) (i : Insn) → Does (EachDeed P) (row p s f units i)
+row_deeds k units i = row_lists (of_each k) units i
 
 -- no row does what is left to initialisation, to the start and to the way of a throwable
 within_rows : (p : Program) (s : State) (f : Frame) → RowKinds p s f (λ d. is_beyond_rows d ≡ false)
@@ -79,8 +115,7 @@ within_rows p s f = record {
 
 pub rows_keep_within : RowsKeepWithin
 rows_keep_within = λ p s f units i deeds e.
-    subst (λ ds. NoneOf is_beyond_rows (the_deeds ds)) e
-    (each_fails is_beyond_rows (the_deeds (row p s f units i)) (row_deeds (within_rows p s f) units i).each)
+    each_fails is_beyond_rows deeds (on_some deeds e (row_deeds (within_rows p s f) units i))
 
 -- no write of a row is lost
 writes_there : (p : Program) (s : State) (f : Frame) → RowKinds p s f (IsWriteInside s f)
@@ -106,4 +141,4 @@ writes_there p s f = record {
 
 pub row_writes_are_inside : RowWritesAreInside
 row_writes_are_inside = λ p s f units i deeds e.
-    subst (λ ds. EachDeed (IsWriteInside s f) (the_deeds ds)) e (row_deeds (writes_there p s f) units i).each
+    on_some deeds e (row_deeds (writes_there p s f) units i)

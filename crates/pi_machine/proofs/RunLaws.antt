@@ -189,4 +189,4 @@ pub output_grows_law : OutputGrows
 output_grows_law = λ p given n s t m f e x. let r : Fronts p given m.state f = fronts_of p given n s t m f e x in (r.rest, r.is)
 
 pub end_stays_law : EndStays
-end_stays_law = λ p given n s t m f e x. (leads_on p given n m s t e).back f x
+end_stays_law = λ p given n s t m f e. let l : LeadsOn p given s t m = leads_on p given n m s t e in (l.back f, l.on f)

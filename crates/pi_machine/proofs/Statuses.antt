@@ -25,7 +25,7 @@ use Rattle.pi_machine.specs.Step.{instruction_move, move_of, deeds_of, step}
 use Rattle.pi_machine.specs.StepLaws.{EachDeed, is_record_of, RecordsRunOn, RecordsRun, StatusMoves, Stays, Enters, Finishes, Breaks, StepsKeepStatuses, StartRecordsRun}
 use Rattle.pi_machine.proofs.Changes.{get_set_other, first_none, others_none}
 use Rattle.pi_machine.proofs.RowDeeds.{row_deeds}
-use Rattle.pi_machine.proofs.RowDeeds.Words.{AllDeeds, RowKinds, each_append, stuck, these, throwing}
+use Rattle.pi_machine.proofs.RowDeeds.Words.{Does, RowKinds, each_append, stuck, these, throwing}
 
 -- what is set at a place is there
 get_set_same : {A : Type 0} (xs : List A) (i : ℕ) (x y : A) → slice_get xs i ≡ Some x → slice_get (slice_set xs i y) i ≡ Some y
@@ -64,9 +64,9 @@ calm_rows p s f = record {
   hold = λ h. refl;
 }
 
-calm_throw : (p : Program) (s : State) (class : Known) → AllDeeds Calm (throws p s class)
+calm_throw : (p : Program) (s : State) (class : Known) → Does (EachDeed Calm) (throws p s class)
 unfolding is_calm Calm
-calm_throw p s class = throwing (λ o. refl) (λ r. refl) p s class
+calm_throw p s class = throwing (λ o r. (refl, (refl, tt))) p s class
 
 -- the stack's own moves keep that the records run
 popped_run : (statuses : List ClassState) (stack : List Entry) → RecordsRunOn statuses stack → RecordsRunOn statuses (popped stack)
@@ -167,7 +167,7 @@ fine_none s = record { fine = λ deeds e. cc }
 fine_list : (s : State) (ds : List Deed) → Fine s (do_all ds s) → AllFine s (Some ds)
 fine_list s ds f = record { fine = λ deeds e. subst (λ (x : List Deed). Fine s (do_all x s)) (same_deeds ds deeds e) f }
 
-fine_calm : (s : State) → RecordsRun s → (ds : Deeds) → AllDeeds Calm ds → AllFine s ds
+fine_calm : (s : State) → RecordsRun s → (ds : Deeds) → Does (EachDeed Calm) ds → AllFine s ds
 fine_calm s r None a = fine_none s
 fine_calm s r (Some ds) a = fine_list s ds (calm_fine s s ds (nothing_moved s r) a.each)
 
@@ -207,11 +207,11 @@ fails_fine : (p : Program) (s : State) (c : ℕ) (phase : Phase) (below : List E
 fails_fine p s c phase below true e r = fine_closes s c Erroneous phase below [] e r Breaks tt
 fails_fine p s c phase below false e r = by_thrown (throws p s ExceptionInInitializer) (calm_throw p s ExceptionInInitializer)
   where
-    by_thrown : (thrown : Deeds) → AllDeeds Calm thrown → AllFine s (option_map (λ ds. SetStatus c Erroneous ∷ Pop ∷ ds) thrown)
+    by_thrown : (thrown : Deeds) → Does (EachDeed Calm) thrown → AllFine s (option_map (λ ds. SetStatus c Erroneous ∷ Pop ∷ ds) thrown)
     by_thrown None a = fine_none s
     by_thrown (Some ds) a = fine_closes s c Erroneous phase below ds e r Breaks a.each
 
-handler_calm : (t : Ref) (h : Option Catch) → AllDeeds Calm (to_handler t h)
+handler_calm : (t : Ref) (h : Option Catch) → Does (EachDeed Calm) (to_handler t h)
 unfolding is_calm Calm
 handler_calm t None = these (refl, tt)
 handler_calm t (Some h) = these (refl, (refl, (refl, tt)))
@@ -221,17 +221,17 @@ throwable_fine p s t [] e r = fine_none s
 throwable_fine p s t (Call f ∷ below) e r = fine_calm s r (to_handler t (handler_for p s t f)) (handler_calm t (handler_for p s t f))
 throwable_fine p s t (Record c phase ∷ below) e r = fails_fine p s c phase below (is_of_type p s t (descriptor_of Error)) e r
 
-main_calm : (f : Option Frame) → AllDeeds Calm (main_frame f)
+main_calm : (f : Option Frame) → Does (EachDeed Calm) (main_frame f)
 unfolding is_calm Calm
 main_calm None = stuck
 main_calm (Some f) = these (refl, (refl, tt))
 
-start_calm : (p : Program) (s : State) (started : Bool) (main : Option ℕ) → AllDeeds Calm (start_move p s started main)
+start_calm : (p : Program) (s : State) (started : Bool) (main : Option ℕ) → Does (EachDeed Calm) (start_move p s started main)
 start_calm p s true main = stuck
 start_calm p s false None = stuck
 start_calm p s false (Some m) = main_calm (entry_frame m (code_of p m) (argument_list s.args))
 
-instruction_calm : (p : Program) (s : State) (f : Frame) (l : Option Line) → AllDeeds Calm (instruction_move p s f l)
+instruction_calm : (p : Program) (s : State) (f : Frame) (l : Option Line) → Does (EachDeed Calm) (instruction_move p s f l)
 instruction_calm p s f None = stuck
 instruction_calm p s f (Some l) = row_deeds (calm_rows p s f) l.units l.insn
 
@@ -251,7 +251,7 @@ phase_calm : (phase : Phase) → EachDeed Calm (SetPhase phase ∷ [])
 unfolding is_calm Calm
 phase_calm phase = (refl, tt)
 
-clinit_calm : (f : Option Frame) → AllDeeds Calm (calls_clinit f)
+clinit_calm : (f : Option Frame) → Does (EachDeed Calm) (calls_clinit f)
 unfolding is_calm Calm
 clinit_calm None = stuck
 clinit_calm (Some f) = these (refl, (refl, tt))

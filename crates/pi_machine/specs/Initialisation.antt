@@ -101,9 +101,9 @@ abbrev pub main_frame : Option Frame → Deeds
 main_frame None = None
 main_frame (Some f) = Some (Start ∷ Push (Call f) ∷ [])
 
--- the array of arguments as the argument of main
+-- the array of arguments as the argument of main; where there is none, null
 abbrev pub argument_list : Option Ref → List Value
-argument_list None = []
+argument_list None = Word 0 ∷ []
 argument_list (Some r) = At r ∷ []
 
 -- the start: main is called, where it was not

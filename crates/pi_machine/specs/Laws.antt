@@ -1,5 +1,5 @@
 -- The laws of the machine, as statements.
-use Rattle.std.specs.Prelude.{◌≡◌, ℕ, List, ◌++◌, Some}
+use Rattle.std.specs.Prelude.{◌≡◌, ◌↔◌, ℕ, List, ◌++◌, Some}
 use Rattle.pi_model.specs.Program.{Program}
 use Rattle.pi_machine.specs.State.{State}
 use Rattle.pi_machine.specs.Ends.{Setting, Tally, Finish, Moment, moment_after, EndsFrom, EndsWith}
@@ -20,7 +20,7 @@ OutputGrows = (p : Program) (given : Setting) (n : ℕ) (s : State) (t : Tally) 
     → moment_after p given n s t ≡ Some m → EndsFrom p given s t f
     → (rest : List ℕ) × (m.state.output ++ rest ≡ f.output)
 
--- from any moment of a run on it ends as it does from its beginning
+-- from any moment of a run on it ends so exactly where it ends so from its beginning
 abbrev pub EndStays : Type 0
 EndStays = (p : Program) (given : Setting) (n : ℕ) (s : State) (t : Tally) (m : Moment) (f : Finish)
-    → moment_after p given n s t ≡ Some m → EndsFrom p given m.state m.tally f → EndsFrom p given s t f
+    → moment_after p given n s t ≡ Some m → (EndsFrom p given m.state m.tally f ↔ EndsFrom p given s t f)

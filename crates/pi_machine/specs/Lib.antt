@@ -9,8 +9,13 @@ pub mod Printed
 pub mod Natives
 pub mod Rows
 pub mod Initialisation
+pub mod Images
 pub mod Step
+pub mod Acts
 pub mod Start
 pub mod Ends
 pub mod Laws
 pub mod StepLaws
+pub mod StepForms
+pub mod Reading
+pub mod Sound

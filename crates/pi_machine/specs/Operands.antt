@@ -54,15 +54,16 @@ with_ref s _ null go = None
 abbrev pub register_of : Frame → ℕ → Option Value
 register_of f a = slice_get f.registers a
 
+-- a value before others, where all are there
+abbrev pub joined : Option Value → Option (List Value) → Option (List Value)
+joined None rest = None
+joined (Some v) None = None
+joined (Some v) (Some vs) = Some (v ∷ vs)
+
 -- the values of registers in order, where the frame has them all
 abbrev pub registers_of : Frame → List ℕ → Option (List Value)
 registers_of f [] = Some []
 registers_of f (a ∷ others) = joined (register_of f a) (registers_of f others)
-  where
-    joined : Option Value → Option (List Value) → Option (List Value)
-    joined None rest = None
-    joined (Some v) None = None
-    joined (Some v) (Some vs) = Some (v ∷ vs)
 
 -- go on with the value of a kind at a register, which for a long is two registers
 abbrev pub with_operand : State → Frame → Kind → ℕ → (Value → Deeds) → Deeds

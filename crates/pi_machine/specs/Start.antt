@@ -65,12 +65,13 @@ first_state p = record {
   file = None;
 }
 
--- a state in which the arguments are made, for no image, and main is named
+-- a state in which the arguments are made, for no image, main is named, and nothing is printed
 abbrev pub with_main : Program → ℕ → List (List ℕ) → State → State
 with_main p main args s = record s {
   things = s.things ++ map (λ o. Made None o) (argument_objects p (length s.things) args);
   main = Some main;
   args = Some (Num (length s.things));
+  output = [];
 }
 
 -- the state in which a run starts

@@ -1,5 +1,5 @@
 -- One step of the machine: its deeds are decided by the state alone, and then done. What one step is, is our own.
-use Rattle.std.specs.Prelude.{ℕ, zero, suc, List, [], ◌∷◌, Option, Some, None, option_map, option_and_then}
+use Rattle.std.specs.Prelude.{ℕ, zero, suc, List, [], ◌∷◌, Option, Some, None, Bool, false, ◌||◌, is_some, is_none, option_map, option_and_then}
 use Rattle.pi_model.specs.declared.describe.Line.{Line}
 use Rattle.pi_model.specs.Program.{Program}
 use Rattle.pi_model.specs.Values.{Ref}
@@ -31,6 +31,16 @@ deeds_of p s = by_need p s (need_of p s s.pending s.stack) (move_of p s s.pendin
 -- the state after the next step
 abbrev pub step : Program → State → Option State
 step p s = option_map (λ deeds. do_all deeds s) (deeds_of p s)
+
+-- nothing is left to do: the stack is empty, and a throwable is pending, or main's frame was pushed, or there is no main
+abbrev pub rests_by : Option Ref → List Entry → Bool → Option ℕ → Bool
+rests_by pending (e ∷ below) started main = false
+rests_by pending [] started main = is_some pending || (started || is_none main)
+
+-- A state is at rest where nothing is left to do. So is one that is ended, and so is one without main and with an empty
+-- stack, as before and after the initialisation of a class ahead of time.
+abbrev pub at_rest : State → Bool
+at_rest s = rests_by s.pending s.stack s.started s.main
 
 -- the state after that many steps, where the machine makes them
 abbrev pub after_steps : Program → ℕ → State → Option State

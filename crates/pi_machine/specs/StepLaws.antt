@@ -5,12 +5,13 @@ use Rattle.std.specs.List.{list_any}
 use Rattle.pi_model.specs.declared.reason.ClassState.{ClassState}
 use Rattle.pi_model.specs.declared.reason.ClassState.TheVariants.{Fresh, InProgress, Done, Erroneous}
 use Rattle.pi_model.specs.declared.insn.Insn.{Insn}
-use Rattle.pi_model.specs.Program.{Program}
+use Rattle.pi_model.specs.Program.{Program, all_fields}
+use Rattle.pi_model.specs.Search.{in_class, field_of}
 use Rattle.pi_machine.specs.State.{State, Thing, Made, Touched, Frame, Entry, Call, Record}
 use Rattle.pi_machine.specs.Deeds.{Look, OfStatus, OfStatic, OfField, OfItem, OfHeld, OfObject, Deed, Make, Touch, Saw, SetStatic, SetStatus, SetField, SetItem, Print, Start, Push, Pop, SetReg, Jump, GoOn, SetPhase, Pend, Unpend, Hold, do_all}
 use Rattle.pi_machine.specs.Objects.{made_of, OfInstance, OfArray, shape_of, object_at, field_in, item_in}
 use Rattle.pi_machine.specs.Rows.{row}
-use Rattle.pi_machine.specs.Step.{deeds_of, step, after_steps}
+use Rattle.pi_machine.specs.Step.{deeds_of, step, after_steps, at_rest}
 use Rattle.pi_machine.specs.Start.{first_state, start_state}
 use Rattle.pi_machine.specs.Ends.{Setting, Tally, Finish, End, end_of, run_by}
 
@@ -188,6 +189,12 @@ pub record HasItem (s : State) (n place : ℕ) : Type 0 where
   pub is : option_map shape_of (made_of (slice_get s.things n)) ≡ Some (OfArray ty items)
   pub within : place < items
 
+-- a number is that of a field of a class
+pub record IsFieldOf (p : Program) (c f : ℕ) : Type 0 where
+  pub place : ℕ
+  pub member : field_of p f ≡ Some (in_class c place)
+  pub below : f < all_fields p
+
 -- what a deed of an instruction writes is there to be written: the static, the field, the element, the register
 abbrev pub IsWriteInside : State → Frame → Deed → Type 0
 IsWriteInside s f (SetStatic field v) = field < length s.statics
@@ -200,6 +207,14 @@ IsWriteInside s f _ = Unit {0}
 abbrev pub RowWritesAreInside : Type 0
 RowWritesAreInside = (p : Program) (s : State) (f : Frame) (units : ℕ) (i : Insn) (deeds : List Deed)
     → row p s f units i ≡ Some deeds → EachDeed (IsWriteInside s f) deeds
+
+-- a state that is at rest has no next step
+abbrev pub RestHasNoStep : Type 0
+RestHasNoStep = (p : Program) (s : State) → at_rest s ≡ true → deeds_of p s ≡ None
+
+-- a state that is ended is at rest
+abbrev pub EndedIsAtRest : Type 0
+EndedIsAtRest = (p : Program) (s : State) (e : End) → end_of p s ≡ Some e → at_rest s ≡ true
 
 -- a state that is ended has no next step
 abbrev pub EndedHasNoStep : Type 0

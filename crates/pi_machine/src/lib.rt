@@ -4,7 +4,11 @@
 
 ghost use Rattle.pi_machine.specs.Laws.{EndIsUnique, RunEndIsUnique, OutputGrows, EndStays};
 ghost use Rattle.pi_machine.specs.StepLaws.{DeedsChangeOnly, StepsKeepStatuses, StartRecordsRun, StatusesStay};
-ghost use Rattle.pi_machine.specs.StepLaws.{RowsKeepWithin, RowWritesAreInside, LooksAreTrue, EndedHasNoStep, LongerRunEndsSame};
+ghost use Rattle.pi_machine.specs.StepLaws.{RowsKeepWithin, RowWritesAreInside, LooksAreTrue, RestHasNoStep, EndedIsAtRest, EndedHasNoStep, LongerRunEndsSame};
+ghost use Rattle.pi_machine.specs.StepForms.{WritesHaveOneTarget, StaticReadsHaveOneClass, StepsEnterAndCallOnce, StepsMakeFirst, StepWritesAreInside};
+ghost use Rattle.pi_machine.specs.Images.{ImageBytesGrow};
+ghost use Rattle.pi_machine.specs.Sound.{StartsAreSound, StepsKeepSound, FewBytesAreShort};
+ghost use Rattle.pi_machine.specs.Reading.{ThingsStandBetween, ReferencesGoOnAlike};
 
 /// A run from a state has one end at most.
 pub fn end_is_unique()
@@ -21,7 +25,7 @@ pub fn output_grows()
     ensures { OutputGrows }
 {}
 
-/// A run ends from any of its moments as it does from its beginning.
+/// A run ends so from any of its moments exactly where it ends so from its beginning.
 pub fn end_stays()
     ensures { EndStays }
 {}
@@ -60,6 +64,71 @@ pub fn row_writes_are_inside()
 /// What the deeds of a step tell as read stands so in the state before it.
 pub fn looks_are_true()
     ensures { LooksAreTrue }
+{}
+
+/// All writes of a step go to one object, or to statics of one class.
+pub fn writes_have_one_target()
+    ensures { WritesHaveOneTarget }
+{}
+
+/// All statics that a step reads are of one class.
+pub fn static_reads_have_one_class()
+    ensures { StaticReadsHaveOneClass }
+{}
+
+/// A step enters one class at most, and calls one native at most.
+pub fn steps_enter_and_call_once()
+    ensures { StepsEnterAndCallOnce }
+{}
+
+/// A step makes one object at most, before it touches any literal.
+pub fn steps_make_first()
+    ensures { StepsMakeFirst }
+{}
+
+/// No write of a step to a static, a field or an element is lost, where there is a static for each field of the program.
+pub fn step_writes_are_inside()
+    ensures { StepWritesAreInside }
+{}
+
+/// After deeds the bytes of an image are what they were, and the bytes of what was made and first touched.
+pub fn image_bytes_grow()
+    ensures { ImageBytesGrow }
+{}
+
+/// A thing stands between those before it and those behind it, and a change of it changes no other.
+pub fn things_stand_between()
+    ensures { ThingsStandBetween }
+{}
+
+/// Where a row goes on alike with null and with things, it went on with a reference operand.
+pub fn references_go_on_alike()
+    ensures { ReferencesGoOnAlike }
+{}
+
+/// A step leads from a sound state to a sound one, for programs whose constants are words, where a text that it makes is short.
+pub fn steps_keep_sound()
+    ensures { StepsKeepSound }
+{}
+
+/// The states in which runs start are sound.
+pub fn starts_are_sound()
+    ensures { StartsAreSound }
+{}
+
+/// An object of fewer than 2^32 bytes is short.
+pub fn few_bytes_are_short()
+    ensures { FewBytesAreShort }
+{}
+
+/// A state that is at rest has no next step.
+pub fn rest_has_no_step()
+    ensures { RestHasNoStep }
+{}
+
+/// A state that is ended is at rest.
+pub fn ended_is_at_rest()
+    ensures { EndedIsAtRest }
 {}
 
 /// A state that is ended has no next step.

@@ -46,36 +46,44 @@ with_instance p (Num n) i (Some (OfInstance c fields)) go =
     if is_subclass p c i.class then option_and_then (λ place. if nat_lt place fields then go n place else None) (field_place p i) else None
 with_instance p r i shape go = None
 
+-- a field that was found is read into a register
+abbrev pub reads_field : Program → State → Frame → ℕ → Access → ℕ → ℕ → Member → Deeds
+reads_field p s f units access a b i =
+    with_ref s (register_of f b) (throws p s NullPointer) (λ o. with_instance p o i (shape_at p s o) (λ n place.
+    of_kind (kind_of access) (field_in (object_at p s o) place) (λ v.
+    first_do (Reads n) (first_do (Saw (OfField o place v)) (set_and_go f units a v)))))
+
 -- a field is read into a register
 abbrev pub iget_row : Program → State → Frame → ℕ → Access → ℕ → ℕ → FieldRef → Deeds
-iget_row p s f units access a b r = option_and_then read (find_field p r)
-  where
-    read : Member → Deeds
-    read i = with_ref s (register_of f b) (throws p s NullPointer) (λ o. with_instance p o i (shape_at p s o) (λ n place.
-        of_kind (kind_of access) (field_in (object_at p s o) place) (λ v.
-        first_do (Reads n) (first_do (Saw (OfField o place v)) (set_and_go f units a v)))))
+iget_row p s f units access a b r = option_and_then (reads_field p s f units access a b) (find_field p r)
+
+-- a register is written to a field that was found
+abbrev pub writes_field : Program → State → Frame → ℕ → Access → ℕ → ℕ → Member → Deeds
+writes_field p s f units access a b i =
+    with_operand s f (kind_of access) a (λ v. with_ref s (register_of f b) (throws p s NullPointer) (λ o.
+    with_instance p o i (shape_at p s o) (λ n place. Some (Writes n ∷ SetField n place (kept access v) ∷ go_on f units))))
 
 -- a register is written to a field
 abbrev pub iput_row : Program → State → Frame → ℕ → Access → ℕ → ℕ → FieldRef → Deeds
-iput_row p s f units access a b r = option_and_then write (find_field p r)
-  where
-    write : Member → Deeds
-    write i = with_operand s f (kind_of access) a (λ v. with_ref s (register_of f b) (throws p s NullPointer) (λ o.
-        with_instance p o i (shape_at p s o) (λ n place. Some (Writes n ∷ SetField n place (kept access v) ∷ go_on f units))))
+iput_row p s f units access a b r = option_and_then (writes_field p s f units access a b) (find_field p r)
+
+-- a static field that was found is read into a register
+abbrev pub reads_static_field : Program → State → Frame → ℕ → Access → ℕ → Member → Deeds
+reads_static_field p s f units access a i =
+    of_kind (kind_of access) (slice_get s.statics (field_no_of p i)) (λ v.
+    first_do (Saw (OfStatic (field_no_of p i) v)) (set_and_go f units a v))
 
 -- a static field is read into a register
 abbrev pub sget_row : Program → State → Frame → ℕ → Access → ℕ → FieldRef → Deeds
-sget_row p s f units access a r = option_and_then read (find_field p r)
-  where
-    read : Member → Deeds
-    read i = of_kind (kind_of access) (slice_get s.statics (field_no_of p i)) (λ v.
-        first_do (Saw (OfStatic (field_no_of p i) v)) (set_and_go f units a v))
+sget_row p s f units access a r = option_and_then (reads_static_field p s f units access a) (find_field p r)
+
+-- a register is written to a static field that was found
+abbrev pub writes_static_field : Program → State → Frame → ℕ → Access → ℕ → Member → Deeds
+writes_static_field p s f units access a i =
+    with_operand s f (kind_of access) a (λ v.
+    if nat_lt (field_no_of p i) (length s.statics)
+    then Some (SetStatic (field_no_of p i) (kept access v) ∷ go_on f units) else None)
 
 -- a register is written to a static field
 abbrev pub sput_row : Program → State → Frame → ℕ → Access → ℕ → FieldRef → Deeds
-sput_row p s f units access a r = option_and_then write (find_field p r)
-  where
-    write : Member → Deeds
-    write i = with_operand s f (kind_of access) a (λ v.
-        if nat_lt (field_no_of p i) (length s.statics)
-        then Some (SetStatic (field_no_of p i) (kept access v) ∷ go_on f units) else None)
+sput_row p s f units access a r = option_and_then (writes_static_field p s f units access a) (find_field p r)
