@@ -1,5 +1,5 @@
 -- Worked limits of an attempt on object bytes and frame words.
-use Rattle.std.proofs.Common.{Some, None, ◌≡◌, ℕ, false, List, [], ◌∷◌, Option, refl, zero-add}
+use Rattle.std.proofs.Common.{Some, None, ◌≡◌, ℕ, ◌+◌, false, List, [], ◌∷◌, Option, refl, arith}
 use Rattle.std.specs.Prelude.{replicate, nat_lt}
 use Rattle.std.proofs.lemmas.List.{length-replicate}
 use Rattle.pi_model.specs.declared.insn.Insn.{Insn}
@@ -36,10 +36,13 @@ or_none : (o : Option Why) → or_else o None ≡ o
 or_none None = refl
 or_none (Some why) = refl
 
+alone : (n : ℕ) → 0 + (n + 0) ≡ n
+alone n = omega arith
+
 -- the object bytes are those of the one array
 made_bytes : (n : ℕ) → reason chain_of_c 29 1 false in_c (makes n) ≡ when (nat_lt image_limit (sized 4 n)) Heap
 unfolding descriptor_of native_table is_virtual is_clinit
-made_bytes n = rw (length-replicate n (Word 0), zero-add (sized 4 n)) (or_none (when (nat_lt image_limit (sized 4 n)) Heap))
+made_bytes n = rw (length-replicate n (Word 0), alone (sized 4 n)) (or_none (when (nat_lt image_limit (sized 4 n)) Heap))
 
 -- 8,388,604 ints with the header of sixteen bytes are all that an image may have
 fits_exactly : reason chain_of_c 29 1 false in_c (makes 8388604) ≡ None

@@ -11,7 +11,7 @@ use Rattle.pi_machine.specs.State.{State, Thing, Made, Touched, Entry}
 use Rattle.pi_machine.specs.Deeds.{Deed, Saw, OfStatic, Writes, SetStatic, SetStatus, do_all}
 use Rattle.pi_machine.specs.Objects.{shape_at}
 use Rattle.pi_machine.specs.Natives.{type_name_of}
-use Rattle.pi_machine.specs.Images.{image_bytes}
+use Rattle.pi_machine.specs.Images.{image_bytes, all_added}
 use Rattle.pi_machine.specs.Acts.{first_of, entered_by, field_class, impure_call}
 use Rattle.pi_machine.specs.Initialisation.{enters}
 use Rattle.pi_machine.specs.Operands.{Deeds}
@@ -90,9 +90,10 @@ abbrev pub when : Bool → Why → Option Why
 when true why = Some why
 when false why = None
 
--- a throwable that reaches the record takes no object bytes
+-- the image would have too many bytes: those that it has, and those that the step adds; a throwable that reaches the record
+-- takes none
 abbrev pub too_many_bytes : Program → ℕ → ℕ → State → List Deed → Bool
-too_many_bytes p c file s deeds = not (reaches_record c deeds) && nat_lt image_limit (image_bytes p file (do_all deeds s))
+too_many_bytes p c file s deeds = not (reaches_record c deeds) && nat_lt image_limit (image_bytes p file s + all_added p file deeds s)
 
 -- the frames would have too many words
 abbrev pub too_many_words : State → List Deed → Bool

@@ -1,9 +1,9 @@
 -- The worked file: what a lazy run of it owes is 5 and a newline, and the line on 11 steps. That the file breaks no rule
 -- is a premise, since its signature is not computed here. And what an empty file owes.
-use Rattle.std.proofs.Common.{◌≡◌, ℕ, List, [], ◌∷◌, Some, None, Option, true, false, refl, if◌then◌else◌, subst, sym, length}
+use Rattle.std.proofs.Common.{◌≡◌, ℕ, List, [], ◌∷◌, Some, None, Option, true, false, refl, if◌then◌else◌, subst, sym, ap, length}
 use Rattle.std.specs.Prelude.{codes, nat_lt}
 use Rattle.std.specs.Fmt.{digits}
-use Rattle.pi_base.specs.declared.status.Status.TheVariants.{Done, Steps, Dex}
+use Rattle.pi_base.specs.declared.status.Status.TheVariants.{Done, Missing, Steps, Dex}
 use Rattle.pi_model.specs.Known.{descriptor_of}
 use Rattle.pi_model.specs.Program.{Program, with_file}
 use Rattle.pi_format.specs.Core.{name_no, core_names, core_program, int_name, object_name, out_name, void_name, strings_name}
@@ -87,3 +87,8 @@ nothing name = Some []
 refuses_nothing : Owes (words (codes "10")) nothing (refused Dex (codes "dex five.dex: rule 1 at 0\n"))
 unfolding words nothing broken_tables_rule digits
 refuses_nothing = refl
+
+-- and it owes nothing else
+owes_no_other : ¬ Owes (words (codes "10")) nothing (refused Missing (codes "missing five.dex\n"))
+unfolding words nothing broken_tables_rule digits
+owes_no_other e = let x = ap (λ (o : Owed). o.lines) e in cc

@@ -7,3 +7,4 @@ pub mod Members
 pub mod Tables
 pub mod Below
 pub mod Fold
+mod Premises
