@@ -6,8 +6,8 @@
 With the word --anew a run proves all; without it what an earlier run passed is kept and takes nothing, so the table has for
 each crate the last run of the log that proved it.
 
-A checker is a process whose program is `rattle`. It is told apart by its words and its folder: a build proves the crate
-(with its tests where it is told so), a check in a folder of its own tries an edit. What is taken is the processor time that
+A checker is a process whose program is `rattle`. It is told apart by its words and its folder: one in a folder of its own
+tries an edit, or proves the crate there before the first one; the others prove the crate, with its tests where told so. What is taken is the processor time that
 the system counts for it, looked at each half second, so each process is short by a quarter of a second on the average. The
 line `rest` is what the system counted for the run besides: loading, compilers, and the programs themselves.
 """
@@ -30,7 +30,7 @@ def looked_at(folder):
     if not words[0].endswith('/rattle') or '--crate-name' not in words:
         return None
     crate = words[words.index('--crate-name') + 1]
-    edit = words[1] == 'check' or '/rt-edit' in os.readlink(folder + '/cwd')
+    edit = '/rt-edit' in os.readlink(folder + '/cwd')
     kind = 'tests' if '--test' in words else 'edits' if edit else 'proof'
     fields = open(folder + '/stat').read().rsplit(')', 1)[1].split()
     return crate, kind, sum(int(fields[k]) for k in (11, 12, 13, 14)) / TICKS, fields[19], int(fields[1])
