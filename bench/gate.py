@@ -33,7 +33,7 @@ def looked_at(folder):
     edit = '/rt-edit' in os.readlink(folder + '/cwd')
     kind = 'tests' if '--test' in words else 'edits' if edit else 'proof'
     fields = open(folder + '/stat').read().rsplit(')', 1)[1].split()
-    return crate, kind, sum(int(fields[k]) for k in (11, 12, 13, 14)) / TICKS, fields[19], int(fields[1])
+    return crate, kind, (int(fields[11]) + int(fields[12])) / TICKS, fields[19], int(fields[1])
 
 
 def below(process, top):

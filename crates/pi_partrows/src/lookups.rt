@@ -30,7 +30,7 @@ use pi_model::texts::{same_text, text_of};
 use pi_rows::chain::program;
 use pi_rows::files::{Named, follow_file};
 use pi_rows::follow::Subject;
-use pi_rows::spell::units_as_text;
+use pi_rows::spell::{counts, units_as_text};
 use pi_rows::words::text_of as bytes_of_text;
 use pi_small::core;
 use std::alloc::{AllocError, Global};
@@ -66,7 +66,7 @@ impl Lookups {
         match program(alloc, self.files.as_slice()) {
             Ok(prog) => {
                 self.prog = prog;
-                counts(alloc, &self.prog)
+                sizes(alloc, &self.prog)
             }
             Err(DexFault::OutOfMemory) => Err(AllocError),
             Err(fault) => format!(in alloc; "{fault}"),
@@ -76,7 +76,7 @@ impl Lookups {
     /// Takes the program of the file that each chain begins with.
     fn take_first(&mut self, alloc: Global) -> Result<String, AllocError> {
         self.prog = core(alloc)?;
-        counts(alloc, &self.prog)
+        sizes(alloc, &self.prog)
     }
 
     /// What a row asks for; none where it asks for nothing.
@@ -119,16 +119,16 @@ impl Subject for Lookups {
 }
 
 /// How many of each kind a program has.
-fn counts(alloc: Global, prog: &Prog) -> Result<String, AllocError> {
-    format!(in alloc;
-        "{} files, {} names, {} types, {} classes, {} fields, {} methods",
-        prog.files(),
-        prog.names(),
-        prog.all_types(),
-        prog.classes(),
-        prog.all_fields(),
-        prog.all_methods()
-    )
+fn sizes(alloc: Global, prog: &Prog) -> Result<String, AllocError> {
+    let sizes = [
+        ("files", u32::from(prog.files())),
+        ("names", prog.names()),
+        ("types", prog.all_types()),
+        ("classes", prog.classes()),
+        ("fields", prog.all_fields()),
+        ("methods", prog.all_methods()),
+    ];
+    counts(alloc, &sizes)
 }
 
 /// The units of a text in a row, whose bytes are units.

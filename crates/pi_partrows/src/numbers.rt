@@ -137,22 +137,29 @@ fn called(
 
 /// What taking a piece answers.
 fn taken(alloc: Global, cursor: &mut Cursor<'_>, call: &str) -> Result<Option<String>, AllocError> {
-    let Some(("take", count)) = call.split_once('=') else {
+    let Some(count) = taken_count(call) else {
         return Ok(None);
     };
-    let Ok(count) = count.parse::<usize>() else {
-        return Ok(None);
-    };
-    let mut answer = String::new(alloc);
     match cursor.take(count) {
-        Ok(piece) => {
-            answer.push('[')?;
-            add_digits(&mut answer, alloc, piece)?;
-            answer.push(']')?;
-        }
-        Err(fault) => answer.push_str(format!(in alloc; "Err({fault:?})")?.as_str())?,
+        Ok(piece) => Ok(Some(piece_as_text(alloc, piece)?)),
+        Err(fault) => Ok(Some(format!(in alloc; "Err({fault:?})")?)),
     }
-    Ok(Some(answer))
+}
+
+/// How many bytes a call takes.
+fn taken_count(call: &str) -> Option<usize> {
+    let (verb, count) = call.split_once('=')?;
+    if verb != "take" {
+        return None;
+    }
+    count.parse::<usize>().ok()
+}
+
+fn piece_as_text(alloc: Global, piece: &[u8]) -> Result<String, AllocError> {
+    let mut text = String::from_str(alloc, "[")?;
+    add_digits(&mut text, alloc, piece)?;
+    text.push(']')?;
+    Ok(text)
 }
 
 /// The text that bytes begin with.

@@ -204,10 +204,12 @@ fn pieces(alloc: Global, pieces: &[Piece<'_>]) -> Result<String, AllocError> {
 
 /// A piece by its first unit and the number of its units, and whether it is a payload.
 fn spelled(alloc: Global, piece: &Piece<'_>) -> Result<String, AllocError> {
-    match piece.payload() {
-        None => format!(in alloc; "{}+{}", piece.at, piece.units),
-        Some(_) => format!(in alloc; "{}+{} payload", piece.at, piece.units),
-    }
+    let kind = if piece.payload().is_some() {
+        " payload"
+    } else {
+        ""
+    };
+    format!(in alloc; "{}+{}{kind}", piece.at, piece.units)
 }
 
 /// The units of a code item, where it is in the file.

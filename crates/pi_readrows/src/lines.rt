@@ -1,7 +1,6 @@
 // The lines that a row tells: each behind the title of the row, or where they are many their digest.
 use pi_rows::spell::add_digits;
 use sha1::Sha1;
-use std::alloc::{AllocError, Global};
 use std::io;
 
 /// Whether lines are told one by one or by their digest.
@@ -41,17 +40,4 @@ fn tell_digest(rt: &HostRuntime, title: &str, lines: &[String]) -> io::Result<()
     let mut digest = String::new(rt.alloc());
     add_digits(&mut digest, rt.alloc(), &hasher.finalize())?;
     println!(rt; "{title}: {} lines {digest}", lines.len())
-}
-
-/// How many there are of each kind of thing, as a line.
-pub(crate) fn counts(alloc: Global, counts: &[(&str, u32)]) -> Result<String, AllocError> {
-    let mut line = String::new(alloc);
-    for pair in counts {
-        let (kind, count) = *pair;
-        if !line.is_empty() {
-            line.push_str(", ")?;
-        }
-        line.push_str(format!(in alloc; "{count} {kind}")?.as_str())?;
-    }
-    Ok(line)
 }

@@ -7,11 +7,11 @@
 //   sizes TITLE           the sizes of the tables alone, and how many bytes and units all strings have
 //
 // A file of more than 16 MiB is not asked.
-use crate::lines::{Telling, counts, tell};
+use crate::lines::{Telling, tell};
 use pi_dexraw::{DexFault, Raw};
 use pi_rows::files::{Named, follow_file};
 use pi_rows::follow::Subject;
-use pi_rows::spell::{add_bytes, add_digits, units_as_text};
+use pi_rows::spell::{add_bytes, add_digits, counts, units_as_text};
 use sha1::Sha1;
 use std::alloc::{AllocError, Global};
 use std::io;

@@ -6,13 +6,13 @@
 //   digest TITLE          the digest of these lines
 //
 // A ninth file and one of more than 16 MiB are left out.
-use crate::lines::{Telling, counts, tell};
+use crate::lines::{Telling, tell};
 use pi_model::numbers::{ClassNo, FileNo, NameNo};
 use pi_model::prog::Prog;
 use pi_rows::chain::{add_all, no_files};
 use pi_rows::files::{Named, follow_file};
 use pi_rows::follow::Subject;
-use pi_rows::spell::units_as_text;
+use pi_rows::spell::{counts, units_as_text};
 use std::alloc::{AllocError, Global};
 use std::io;
 

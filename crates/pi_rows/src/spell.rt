@@ -55,3 +55,16 @@ pub fn content_as_text(alloc: Global, bytes: &[u8]) -> Result<String, AllocError
     text.push(']')?;
     Ok(text)
 }
+
+/// How many there are of each kind of thing, as a line.
+pub fn counts(alloc: Global, counts: &[(&str, u32)]) -> Result<String, AllocError> {
+    let mut line = String::new(alloc);
+    for pair in counts {
+        let (kind, count) = *pair;
+        if !line.is_empty() {
+            line.push_str(", ")?;
+        }
+        line.push_str(format!(in alloc; "{count} {kind}")?.as_str())?;
+    }
+    Ok(line)
+}
