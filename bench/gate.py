@@ -7,9 +7,10 @@ With the word --anew a run proves all; without it what an earlier run passed is 
 each crate the last run of the log that proved it.
 
 A checker is a process whose program is `rattle`. It is told apart by its words and its folder: one in a folder of its own
-tries an edit, or proves the crate there before the first one; the others prove the crate, with its tests where told so. What is taken is the processor time that
-the system counts for it, looked at each half second, so each process is short by a quarter of a second on the average. The
-line `rest` is what the system counted for the run besides: loading, compilers, and the programs themselves.
+tries an edit, or proves the crate there before the first one; the others prove the crate, with its tests where told so. What
+is taken is the processor time that the system counts for it, looked at each half second, so each process is short by a
+quarter of a second on the average. The line `rest` is what the system counted for the run besides: compilers, the programs
+themselves, and what the looks missed.
 """
 
 import glob
