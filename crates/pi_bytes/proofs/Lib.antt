@@ -5,3 +5,4 @@ pub mod Texts
 pub mod Laws
 pub mod LebLaws
 pub mod Examples
+pub mod Halves

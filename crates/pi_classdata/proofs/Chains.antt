@@ -4,7 +4,7 @@ use Rattle.std.specs.Prelude.{◌&&◌, if◌then◌else◌}
 use Rattle.std.specs.List.{list_all}
 use Rattle.std.proofs.lemmas.List.{append-nil}
 use Rattle.pi_bytes.specs.Place.{Place}
-use Rattle.pi_format.specs.Bytes.{◌>>=◌}
+use Rattle.pi_insn.specs.Chain.{◌>>=◌}
 use Rattle.pi_format.specs.declared.lists.MemberList.{MemberList}
 use Rattle.pi_format.specs.Rules.Rows.{MemberRow, is_behind, member_row, rows_from}
 use Rattle.pi_format.specs.Rules.ClassData.{Owner, row_holds, rows_of_list}

@@ -5,7 +5,7 @@ use Rattle.std.proofs.lemmas.List.{append-nil}
 use Rattle.byteorder.specs.Endian.{little_from}
 use Rattle.byteorder.specs.Numbers.{little_from-take}
 use Rattle.pi_bytes.specs.Place.{Place}
-use Rattle.pi_format.specs.Bytes.{◌>>=◌}
+use Rattle.pi_insn.specs.Chain.{◌>>=◌}
 use Rattle.pi_format.specs.Rules.Rows.{MemberRow}
 use Rattle.pi_format.specs.Rules.Values.{EncodedValue, encoded_value, value_fits, field_type, values_from}
 use Rattle.pi_classdata.specs.Held.{held_value}

@@ -2,10 +2,10 @@
 use Rattle.std.proofs.Common.{◌≡◌, ◌≢◌, ℕ, zero, suc, ◌+◌, ◌<◌, ◌≤◌, List, [], ◌∷◌, length, None, true, false, refl, arith}
 use Rattle.std.specs.Prelude.{◌==◌}
 use Rattle.std.proofs.lemmas.Bool.Decides.{nat_tests}
-use Rattle.pi_format.specs.Bytes.{word_at}
+use Rattle.pi_bytes.specs.Numbers.{word_at, halves_at}
 use Rattle.pi_format.specs.Tables.{count_at, proto_ids}
 use Rattle.pi_format.specs.Rules.{broken_tables_rule}
-use Rattle.pi_format.specs.Rules.Entries.{list_fits, list_at, halves_at}
+use Rattle.pi_format.specs.Rules.Entries.{list_fits, list_at}
 use Rattle.pi_format.specs.Rules.Members.{proto_entry}
 use Rattle.pi_format.specs.Rules.ClassData.{ListedMethod, has_no_params}
 use Rattle.pi_format.proofs.Held.{tables_hold, proto_kept}

@@ -1,7 +1,7 @@
 -- Rows and values that are judged as they are read.
 use Rattle.std.specs.Prelude.{◌≡◌, ℕ, ◌&&◌, List, [], ◌∷◌, Option, Some, None, Bool, true, if◌then◌else◌}
 use Rattle.pi_bytes.specs.Place.{Place}
-use Rattle.pi_format.specs.Bytes.{◌>>=◌}
+use Rattle.pi_insn.specs.Chain.{◌>>=◌}
 use Rattle.pi_format.specs.declared.lists.MemberList.{MemberList}
 use Rattle.pi_format.specs.Rules.Rows.{MemberRow, is_behind, member_row}
 use Rattle.pi_format.specs.Rules.ClassData.{Owner, row_holds}

@@ -9,7 +9,7 @@ ghost use Rattle.pi_format.specs.Rules.ClassData.{owner, is_field_of, is_method_
 ghost use Rattle.pi_format.specs.declared.lists.MemberList.TheVariants.{StaticFields, InstanceFields, DirectMethods, VirtualMethods};
 
 use crate::flags::AccessFlags;
-use pi_dexview::{Member, View, word};
+use pi_dexraw::{Member, Raw, word};
 use pi_format::lists::MemberList;
 use std::marker::Model;
 
@@ -45,11 +45,11 @@ impl Model for ReadRow {
 }
 
 /// The class of a definition.
-pub(crate) fn owner_of(view: &View<'_>, i: u32) -> Owner
-    requires { i < count_at view.now class_defs }
-    ensures { result ≡ owner view.now i }
+pub(crate) fn owner_of(raw: &Raw<'_>, i: u32) -> Owner
+    requires { i < count_at raw.now class_defs }
+    ensures { result ≡ owner raw.now i }
 {
-    let def = view.class_def(i);
+    let def = raw.class_entry(i);
     Owner {
         class: def.class,
         interface: AccessFlags(def.flags).is_interface(),
@@ -57,54 +57,54 @@ pub(crate) fn owner_of(view: &View<'_>, i: u32) -> Owner
 }
 
 /// Whether there is a field of that number, and it belongs to a class.
-fn is_field(view: &View<'_>, class: u32, id: u64) -> bool
-    ensures value { result ≡ is_field_of view.now class id }
+fn is_field(raw: &Raw<'_>, class: u32, id: u64) -> bool
+    ensures value { result ≡ is_field_of raw.now class id }
     ensures small { IsTrue result → id < 4294967296 }
 {
-    id < view.fields() as u64 && view.field(id as u32).class == class
+    id < raw.fields() as u64 && raw.field_entry(id as u32).class == class
 }
 
 /// Whether there is a method of that number, and it belongs to a class.
-fn is_method(view: &View<'_>, class: u32, id: u64) -> bool
-    ensures value { result ≡ is_method_of view.now class id }
+fn is_method(raw: &Raw<'_>, class: u32, id: u64) -> bool
+    ensures value { result ≡ is_method_of raw.now class id }
     ensures small { IsTrue result → id < 4294967296 }
 {
-    id < view.methods() as u64 && view.method(id as u32).class == class
+    id < raw.methods() as u64 && raw.method_entry(id as u32).class == class
 }
 
 /// The method of a row.
-fn method_of(view: &View<'_>, row: &ReadRow) -> Member
-    requires { row.now.id < count_at view.now method_ids }
-    ensures value { result ≡ member_entry view.now method_ids row.now.id }
-    ensures kind { result.kind < count_at view.now proto_ids }
-    ensures name { result.name < count_at view.now string_ids }
+fn method_of(raw: &Raw<'_>, row: &ReadRow) -> Member
+    requires { row.now.id < count_at raw.now method_ids }
+    ensures value { result ≡ member_entry raw.now method_ids row.now.id }
+    ensures kind { result.kind < count_at raw.now proto_ids }
+    ensures name { result.name < count_at raw.now string_ids }
 {
-    prove!(row.id < view.methods() as u64);
-    view.method(row.id as u32)
+    prove!(row.id < raw.methods() as u64);
+    raw.method_entry(row.id as u32)
 }
 
 /// Whether a method is named `<init>`.
-fn is_constructor(view: &View<'_>, row: &ReadRow) -> bool
-    requires { row.now.id < count_at view.now method_ids }
-    ensures { result ≡ is_constructor (listed_method view.now row.now) }
+fn is_constructor(raw: &Raw<'_>, row: &ReadRow) -> bool
+    requires { row.now.id < count_at raw.now method_ids }
+    ensures { result ≡ is_constructor (listed_method raw.now row.now) }
 {
-    view.is_constructor_name(method_of(view, row).name)
+    raw.is_constructor_name(method_of(raw, row).name)
 }
 
 /// Whether a method is named `<clinit>`.
-fn is_initialiser(view: &View<'_>, row: &ReadRow) -> bool
-    requires { row.now.id < count_at view.now method_ids }
-    ensures { result ≡ is_initialiser (listed_method view.now row.now) }
+fn is_initialiser(raw: &Raw<'_>, row: &ReadRow) -> bool
+    requires { row.now.id < count_at raw.now method_ids }
+    ensures { result ≡ is_initialiser (listed_method raw.now row.now) }
 {
-    view.is_initialiser_name(method_of(view, row).name)
+    raw.is_initialiser_name(method_of(raw, row).name)
 }
 
 /// Whether a method returns nothing.
-fn returns_nothing(view: &View<'_>, row: &ReadRow) -> bool
-    requires { row.now.id < count_at view.now method_ids }
-    ensures { result ≡ is_void (listed_method view.now row.now).ret }
+fn returns_nothing(raw: &Raw<'_>, row: &ReadRow) -> bool
+    requires { row.now.id < count_at raw.now method_ids }
+    ensures { result ≡ is_void (listed_method raw.now row.now).ret }
 {
-    view.begins_with(b'V', view.proto(method_of(view, row).kind).ret)
+    raw.begins_with(b'V', raw.proto_entry(method_of(raw, row).kind).ret)
 }
 
 /// Whether there is no type in the list at an offset, as none is at 0.
@@ -118,34 +118,34 @@ fn has_no_types(file: &[u8], at: usize) -> bool
 }
 
 /// The offset of the types of a method's parameters.
-fn params_at(view: &View<'_>, row: &ReadRow) -> u32
-    requires { row.now.id < count_at view.now method_ids }
-    ensures value { result ≡ (proto_entry view.now (method_proto view.now row.now.id)).params }
-    ensures there { method_proto view.now row.now.id < count_at view.now proto_ids }
+fn params_at(raw: &Raw<'_>, row: &ReadRow) -> u32
+    requires { row.now.id < count_at raw.now method_ids }
+    ensures value { result ≡ (proto_entry raw.now (method_proto raw.now row.now.id)).params }
+    ensures there { method_proto raw.now row.now.id < count_at raw.now proto_ids }
 {
-    view.proto(method_of(view, row).kind).params
+    raw.proto_entry(method_of(raw, row).kind).params
 }
 
 /// Whether a method takes nothing.
-fn takes_nothing(view: &View<'_>, row: &ReadRow) -> bool
-    requires { row.now.id < count_at view.now method_ids }
-    ensures { result ≡ has_no_params (listed_method view.now row.now) }
+fn takes_nothing(raw: &Raw<'_>, row: &ReadRow) -> bool
+    requires { row.now.id < count_at raw.now method_ids }
+    ensures { result ≡ has_no_params (listed_method raw.now row.now) }
 {
-    has_no_types(view.file(), params_at(view, row) as usize)
+    has_no_types(raw.file(), params_at(raw, row) as usize)
 }
 
 /// Whether a method is static, private or a constructor.
-fn is_direct(view: &View<'_>, row: &ReadRow) -> bool
-    requires { row.now.id < count_at view.now method_ids }
-    ensures { result ≡ is_direct (listed_method view.now row.now) }
+fn is_direct(raw: &Raw<'_>, row: &ReadRow) -> bool
+    requires { row.now.id < count_at raw.now method_ids }
+    ensures { result ≡ is_direct (listed_method raw.now row.now) }
 {
     let flags = AccessFlags(row.flags);
-    flags.is_static() || flags.is_private() || is_constructor(view, row)
+    flags.is_static() || flags.is_private() || is_constructor(raw, row)
 }
 
 /// Whether a method has code exactly where it is neither native nor abstract.
-fn agrees_on_code(view: &View<'_>, row: &ReadRow) -> bool
-    ensures { result ≡ code_agrees (listed_method view.now row.now) }
+fn agrees_on_code(raw: &Raw<'_>, row: &ReadRow) -> bool
+    ensures { result ≡ code_agrees (listed_method raw.now row.now) }
 {
     let flags = AccessFlags(row.flags);
     let is_elsewhere = flags.is_native() || flags.is_abstract();
@@ -157,76 +157,76 @@ fn agrees_on_code(view: &View<'_>, row: &ReadRow) -> bool
 }
 
 /// Whether a method is static, takes nothing and returns nothing, if it is an initialiser.
-fn fits_initialiser(view: &View<'_>, row: &ReadRow) -> bool
-    requires { row.now.id < count_at view.now method_ids }
-    ensures { result ≡ initialiser_fits (listed_method view.now row.now) }
+fn fits_initialiser(raw: &Raw<'_>, row: &ReadRow) -> bool
+    requires { row.now.id < count_at raw.now method_ids }
+    ensures { result ≡ initialiser_fits (listed_method raw.now row.now) }
 {
-    !is_initialiser(view, row)
+    !is_initialiser(raw, row)
         || AccessFlags(row.flags).is_static()
-            && takes_nothing(view, row)
-            && returns_nothing(view, row)
+            && takes_nothing(raw, row)
+            && returns_nothing(raw, row)
 }
 
 /// Whether a method is flagged and returns nothing, if it is a constructor.
-fn fits_constructor(view: &View<'_>, row: &ReadRow) -> bool
-    requires { row.now.id < count_at view.now method_ids }
-    ensures { result ≡ constructor_fits (listed_method view.now row.now) }
+fn fits_constructor(raw: &Raw<'_>, row: &ReadRow) -> bool
+    requires { row.now.id < count_at raw.now method_ids }
+    ensures { result ≡ constructor_fits (listed_method raw.now row.now) }
 {
-    !is_constructor(view, row)
-        || AccessFlags(row.flags).is_constructor() && returns_nothing(view, row)
+    !is_constructor(raw, row)
+        || AccessFlags(row.flags).is_constructor() && returns_nothing(raw, row)
 }
 
 /// Whether a method is abstract or the initialiser, if its class is an interface.
-fn fits_interface(view: &View<'_>, owner: &Owner, row: &ReadRow) -> bool
-    requires { row.now.id < count_at view.now method_ids }
-    ensures { result ≡ interface_fits owner.now.interface (listed_method view.now row.now) }
+fn fits_interface(raw: &Raw<'_>, owner: &Owner, row: &ReadRow) -> bool
+    requires { row.now.id < count_at raw.now method_ids }
+    ensures { result ≡ interface_fits owner.now.interface (listed_method raw.now row.now) }
 {
-    !owner.interface || AccessFlags(row.flags).is_abstract() || is_initialiser(view, row)
+    !owner.interface || AccessFlags(row.flags).is_abstract() || is_initialiser(raw, row)
 }
 
 /// Whether a method fits its name, its code and its class.
 #[tactic(auto, unfolding(pi_format::specs::Rules::ClassData::method_fits))]
-fn fits(view: &View<'_>, owner: &Owner, row: &ReadRow) -> bool
-    requires { row.now.id < count_at view.now method_ids }
-    ensures { result ≡ method_fits owner.now.interface (listed_method view.now row.now) }
+fn fits(raw: &Raw<'_>, owner: &Owner, row: &ReadRow) -> bool
+    requires { row.now.id < count_at raw.now method_ids }
+    ensures { result ≡ method_fits owner.now.interface (listed_method raw.now row.now) }
 {
-    agrees_on_code(view, row)
-        && fits_initialiser(view, row)
-        && fits_constructor(view, row)
-        && fits_interface(view, owner, row)
+    agrees_on_code(raw, row)
+        && fits_initialiser(raw, row)
+        && fits_constructor(raw, row)
+        && fits_interface(raw, owner, row)
 }
 
 /// Whether a row of direct methods holds.
-fn is_direct_row(view: &View<'_>, owner: &Owner, row: &ReadRow) -> bool
-    ensures value { result ≡ row_holds view.now owner.now DirectMethods row.now }
+fn is_direct_row(raw: &Raw<'_>, owner: &Owner, row: &ReadRow) -> bool
+    ensures value { result ≡ row_holds raw.now owner.now DirectMethods row.now }
     ensures small { IsTrue result → row.now.id < 4294967296 }
 {
-    is_method(view, owner.class, row.id)
-        && is_direct(view, row)
+    is_method(raw, owner.class, row.id)
+        && is_direct(raw, row)
         && !AccessFlags(row.flags).is_abstract()
-        && fits(view, owner, row)
+        && fits(raw, owner, row)
 }
 
 /// Whether a row of virtual methods holds.
-fn is_virtual_row(view: &View<'_>, owner: &Owner, row: &ReadRow) -> bool
-    ensures value { result ≡ row_holds view.now owner.now VirtualMethods row.now }
+fn is_virtual_row(raw: &Raw<'_>, owner: &Owner, row: &ReadRow) -> bool
+    ensures value { result ≡ row_holds raw.now owner.now VirtualMethods row.now }
     ensures small { IsTrue result → row.now.id < 4294967296 }
 {
-    is_method(view, owner.class, row.id) && !is_direct(view, row) && fits(view, owner, row)
+    is_method(raw, owner.class, row.id) && !is_direct(raw, row) && fits(raw, owner, row)
 }
 
 /// Whether a row is one of its list: a member of the class, of the kind that the list has.
-pub(crate) fn holds(view: &View<'_>, owner: &Owner, list: MemberList, row: &ReadRow) -> bool
-    ensures value { result ≡ row_holds view.now owner.now list row.now }
+pub(crate) fn holds(raw: &Raw<'_>, owner: &Owner, list: MemberList, row: &ReadRow) -> bool
+    ensures value { result ≡ row_holds raw.now owner.now list row.now }
     ensures small { IsTrue result → row.now.id < 4294967296 }
 {
     let is_static = AccessFlags(row.flags).is_static();
     match list {
-        MemberList::StaticFields => is_field(view, owner.class, row.id) && is_static,
+        MemberList::StaticFields => is_field(raw, owner.class, row.id) && is_static,
         MemberList::InstanceFields => {
-            is_field(view, owner.class, row.id) && !is_static && !owner.interface
+            is_field(raw, owner.class, row.id) && !is_static && !owner.interface
         }
-        MemberList::DirectMethods => is_direct_row(view, owner, row),
-        MemberList::VirtualMethods => is_virtual_row(view, owner, row),
+        MemberList::DirectMethods => is_direct_row(raw, owner, row),
+        MemberList::VirtualMethods => is_virtual_row(raw, owner, row),
     }
 }

@@ -10,7 +10,7 @@ use crate::apart::are_apart;
 use crate::judge::{Owner, ReadRow, holds, owner_of};
 use crate::rows::{ClassRows, MemberRow};
 use pi_bytes::cursor::Cursor;
-use pi_dexview::View;
+use pi_dexraw::Raw;
 use pi_format::lists::MemberList;
 use pi_model::listed::Listed;
 use std::alloc::{AllocError, Global};
@@ -89,16 +89,16 @@ fn read_row(cursor: &mut Cursor<'_>, list: MemberList, before: Option<u32>) -> O
 /// The next row, if it is behind the one before it and holds.
 #[tactic(auto, unfolding(crate::specs::Held::held_row))]
 fn row(
-    view: &View<'_>,
+    raw: &Raw<'_>,
     owner: &Owner,
     list: MemberList,
     cursor: &mut Cursor<'_>,
     before: Option<u32>,
 ) -> Option<MemberRow>
-    ensures { Reads (held_row view.now owner.now list before cursor.old) cursor.new result }
+    ensures { Reads (held_row raw.now owner.now list before cursor.old) cursor.new result }
 {
     let row = read_row(cursor, list, before)?;
-    if !is_behind(before, row.id) || !holds(view, owner, list, &row) {
+    if !is_behind(before, row.id) || !holds(raw, owner, list, &row) {
         return None;
     }
     Some(MemberRow {
@@ -111,19 +111,19 @@ fn row(
 /// That many rows of a list of the class, one behind the other.
 fn rows(
     alloc: Global,
-    view: &View<'_>,
+    raw: &Raw<'_>,
     owner: &Owner,
     list: MemberList,
     count: u32,
     cursor: &mut Cursor<'_>,
 ) -> Result<Option<Listed<MemberRow>>, AllocError>
-    ensures value { IfOk result (λ r. Reads (rows_of_list view.now owner.now list count cursor.old) cursor.new r) }
+    ensures value { IfOk result (λ r. Reads (rows_of_list raw.now owner.now list count cursor.old) cursor.new r) }
     ensures rising { IfOk result (λ r. IfSome r (λ rows. rise None rows ≡ true)) }
 {
     let mut rows = Listed::new(alloc);
     let mut before = None;
     for _ in 0..count {
-        let Some(row) = row(view, owner, list, cursor, before) else {
+        let Some(row) = row(raw, owner, list, cursor, before) else {
             return Ok(None);
         };
         before = Some(row.id);
@@ -153,18 +153,18 @@ fn counts(cursor: &mut Cursor<'_>) -> Option<RowCounts>
 #[tactic(auto, unfolding(pi_format::specs::Rules::ClassData::rows_at))]
 fn rows_at(
     alloc: Global,
-    view: &View<'_>,
+    raw: &Raw<'_>,
     owner: &Owner,
     cursor: &mut Cursor<'_>,
 ) -> Result<Option<ClassRows>, AllocError>
-    ensures { IfOk result (λ r. r ≡ rows_at view.now owner.now cursor.old) }
+    ensures { IfOk result (λ r. r ≡ rows_at raw.now owner.now cursor.old) }
 {
     let Some(counts) = counts(cursor) else {
         return Ok(None);
     };
     let Some(statics) = rows(
         alloc,
-        view,
+        raw,
         owner,
         MemberList::StaticFields,
         counts.statics,
@@ -175,7 +175,7 @@ fn rows_at(
     };
     let Some(instances) = rows(
         alloc,
-        view,
+        raw,
         owner,
         MemberList::InstanceFields,
         counts.instances,
@@ -186,7 +186,7 @@ fn rows_at(
     };
     let Some(directs) = rows(
         alloc,
-        view,
+        raw,
         owner,
         MemberList::DirectMethods,
         counts.directs,
@@ -197,7 +197,7 @@ fn rows_at(
     };
     let Some(virtuals) = rows(
         alloc,
-        view,
+        raw,
         owner,
         MemberList::VirtualMethods,
         counts.virtuals,
@@ -222,17 +222,17 @@ fn rows_at(
 /// The members of a class definition, None where its class data does not hold. Reading stops at the first row that does
 /// not hold.
 #[tactic(auto, unfolding(pi_format::specs::Rules::ClassData::class_rows))]
-pub fn class_rows(alloc: Global, view: &View<'_>, i: u32) -> Result<Option<ClassRows>, AllocError>
-    requires { i < count_at view.now class_defs }
-    ensures { IfOk result (λ r. r ≡ class_rows view.now i) }
+pub fn class_rows(alloc: Global, raw: &Raw<'_>, i: u32) -> Result<Option<ClassRows>, AllocError>
+    requires { i < count_at raw.now class_defs }
+    ensures { IfOk result (λ r. r ≡ class_rows raw.now i) }
 {
-    let at = view.class_def(i).data_at as usize;
+    let at = raw.class_entry(i).data_at as usize;
     if at == 0 {
         return Ok(Some(ClassRows::none(alloc)));
     }
-    let file = view.file();
+    let file = raw.file();
     if file.len() < at {
         return Ok(None);
     }
-    rows_at(alloc, view, &owner_of(view, i), &mut Cursor::new(file, at))
+    rows_at(alloc, raw, &owner_of(raw, i), &mut Cursor::new(file, at))
 }

@@ -8,7 +8,7 @@ ghost use Rattle.pi_format.specs.Rules.ClassData.{class_data_at, class_rows, row
 
 use crate::read::class_rows;
 use crate::rows::ClassRows;
-use pi_dexview::View;
+use pi_dexraw::Raw;
 use std::alloc::{AllocError, Global};
 use std::marker::Model;
 
@@ -57,26 +57,26 @@ pub(crate) fn lower(a: Option<u32>, b: Option<u32>) -> Option<u32>
 }
 
 /// The place of the class data of a class, if it does not hold, and the members of the class, none if it does not.
-fn judged(alloc: Global, view: &View<'_>, i: u32) -> Result<(Option<u32>, ClassRows), AllocError>
-    requires { i < count_at view.now class_defs }
-    ensures broken { IfOk result (λ r. r.0 ≡ unless (is_some (class_rows view.now i)) (class_data_at view.now i)) }
-    ensures rows { IfOk result (λ r. r.1 ≡ rows_of view.now i) }
+fn judged(alloc: Global, raw: &Raw<'_>, i: u32) -> Result<(Option<u32>, ClassRows), AllocError>
+    requires { i < count_at raw.now class_defs }
+    ensures broken { IfOk result (λ r. r.0 ≡ unless (is_some (class_rows raw.now i)) (class_data_at raw.now i)) }
+    ensures rows { IfOk result (λ r. r.1 ≡ rows_of raw.now i) }
 {
-    match class_rows(alloc, view, i)? {
+    match class_rows(alloc, raw, i)? {
         Some(rows) => Ok((None, rows)),
-        None => Ok((Some(view.class_def(i).data_at), ClassRows::none(alloc))),
+        None => Ok((Some(raw.class_entry(i).data_at), ClassRows::none(alloc))),
     }
 }
 
 /// X18: the class data of each class holds. With the lowest place at which it is broken come the members of all classes.
-pub fn read_rows(alloc: Global, view: &View<'_>) -> Result<(Option<u32>, RowTable), AllocError>
-    ensures broken { IfOk result (λ r. r.0 ≡ broken_class_data view.now) }
-    ensures rows { IfOk result (λ r. r.1 ≡ listed (rows_of view.now) 0 (count_at view.now class_defs)) }
+pub fn read_rows(alloc: Global, raw: &Raw<'_>) -> Result<(Option<u32>, RowTable), AllocError>
+    ensures broken { IfOk result (λ r. r.0 ≡ broken_class_data raw.now) }
+    ensures rows { IfOk result (λ r. r.1 ≡ listed (rows_of raw.now) 0 (count_at raw.now class_defs)) }
 {
     let mut broken = None;
     let mut classes = Vec::new(alloc);
-    for i in 0..view.class_defs() {
-        let (place, rows) = judged(alloc, view, i)?;
+    for i in 0..raw.class_defs() {
+        let (place, rows) = judged(alloc, raw, i)?;
         broken = lower(broken, place);
         classes.push(rows)?;
     }

@@ -16,7 +16,7 @@ use crate::rows::{ClassRows, MemberRow};
 use crate::table::{RowTable, lower};
 use byteorder::{ByteOrder, LittleEndian};
 use pi_bytes::cursor::Cursor;
-use pi_dexview::View;
+use pi_dexraw::Raw;
 use pi_model::listed::Listed;
 use std::alloc::{AllocError, Global};
 use std::marker::Model;
@@ -79,48 +79,48 @@ fn encoded_value(cursor: &mut Cursor<'_>) -> Option<EncodedValue>
 }
 
 /// Whether a type is a class or an array.
-fn is_reference(view: &View<'_>, t: u32) -> bool
-    requires { t < count_at view.now type_ids }
-    ensures { result ≡ is_reference (type_units view.now t) }
+fn is_reference(raw: &Raw<'_>, t: u32) -> bool
+    requires { t < count_at raw.now type_ids }
+    ensures { result ≡ is_reference (type_units raw.now t) }
 {
-    view.begins_with(b'L', t) || view.begins_with(b'[', t)
+    raw.begins_with(b'L', t) || raw.begins_with(b'[', t)
 }
 
 /// Whether there is a type of that number, and it is a class or an array.
-fn names_reference(view: &View<'_>, number: u64) -> bool
-    ensures { result ≡ names_reference view.now number }
+fn names_reference(raw: &Raw<'_>, number: u64) -> bool
+    ensures { result ≡ names_reference raw.now number }
 {
-    number < view.types() as u64 && is_reference(view, number as u32)
+    number < raw.types() as u64 && is_reference(raw, number as u32)
 }
 
 /// Whether a value fits a field of a type.
 #[tactic(auto, unfolding(pi_format::specs::Rules::Values::value_fits))]
-fn fits(view: &View<'_>, t: u32, v: &EncodedValue) -> bool
-    requires { t < count_at view.now type_ids }
-    ensures { result ≡ value_fits view.now (type_units view.now t) v.now }
+fn fits(raw: &Raw<'_>, t: u32, v: &EncodedValue) -> bool
+    requires { t < count_at raw.now type_ids }
+    ensures { result ≡ value_fits raw.now (type_units raw.now t) v.now }
 {
     match v.kind {
-        0x00 => view.begins_with(b'B', t) && v.arg < 1,
-        0x02 => view.begins_with(b'S', t) && v.arg < 2,
-        0x03 => view.begins_with(b'C', t) && v.arg < 2,
-        0x04 => view.begins_with(b'I', t) && v.arg < 4,
-        0x06 => view.begins_with(b'J', t) && v.arg < 8,
-        0x1f => view.begins_with(b'Z', t) && v.arg < 2,
-        0x17 => view.is_string_type(t) && v.arg < 4 && v.number < view.strings() as u64,
-        0x18 => view.is_class_type(t) && v.arg < 4 && names_reference(view, v.number),
-        0x1e => is_reference(view, t) && v.arg == 0,
+        0x00 => raw.begins_with(b'B', t) && v.arg < 1,
+        0x02 => raw.begins_with(b'S', t) && v.arg < 2,
+        0x03 => raw.begins_with(b'C', t) && v.arg < 2,
+        0x04 => raw.begins_with(b'I', t) && v.arg < 4,
+        0x06 => raw.begins_with(b'J', t) && v.arg < 8,
+        0x1f => raw.begins_with(b'Z', t) && v.arg < 2,
+        0x17 => raw.is_string_type(t) && v.arg < 4 && v.number < raw.strings() as u64,
+        0x18 => raw.is_class_type(t) && v.arg < 4 && names_reference(raw, v.number),
+        0x1e => is_reference(raw, t) && v.arg == 0,
         _ => false,
     }
 }
 
 /// The next value, if it fits a field.
 #[tactic(auto, unfolding(crate::specs::Held::held_value))]
-fn value(view: &View<'_>, field: &MemberRow, cursor: &mut Cursor<'_>) -> Option<EncodedValue>
-    requires { field.now.id < count_at view.now field_ids }
-    ensures { Reads (held_value view.now field.now cursor.old) cursor.new result }
+fn value(raw: &Raw<'_>, field: &MemberRow, cursor: &mut Cursor<'_>) -> Option<EncodedValue>
+    requires { field.now.id < count_at raw.now field_ids }
+    ensures { Reads (held_value raw.now field.now cursor.old) cursor.new result }
 {
     let value = encoded_value(cursor)?;
-    if !fits(view, view.field(field.id).kind, &value) {
+    if !fits(raw, raw.field_entry(field.id).kind, &value) {
         return None;
     }
     Some(value)
@@ -129,13 +129,13 @@ fn value(view: &View<'_>, field: &MemberRow, cursor: &mut Cursor<'_>) -> Option<
 /// That many values, one for each of the first fields.
 fn values(
     alloc: Global,
-    view: &View<'_>,
+    raw: &Raw<'_>,
     fields: &[MemberRow],
     count: u32,
     cursor: &mut Cursor<'_>,
 ) -> Result<Option<Values>, AllocError>
-    requires { All (λ field. field.id < count_at view.now field_ids) fields.now }
-    ensures { IfOk result (λ r. r ≡ values_from view.now fields.now count cursor.old) }
+    requires { All (λ field. field.id < count_at raw.now field_ids) fields.now }
+    ensures { IfOk result (λ r. r ≡ values_from raw.now fields.now count cursor.old) }
 {
     let mut values = Listed::new(alloc);
     for k in 0..count as usize {
@@ -143,7 +143,7 @@ fn values(
             return Ok(None);
         }
         let field = &fields[k];
-        let Some(value) = value(view, field, cursor) else {
+        let Some(value) = value(raw, field, cursor) else {
             return Ok(None);
         };
         values.push(value)?;
@@ -155,17 +155,17 @@ fn values(
 #[tactic(auto, unfolding(pi_format::specs::Rules::Values::values_at))]
 fn values_at(
     alloc: Global,
-    view: &View<'_>,
+    raw: &Raw<'_>,
     fields: &[MemberRow],
     cursor: &mut Cursor<'_>,
 ) -> Result<Option<Values>, AllocError>
-    requires { All (λ field. field.id < count_at view.now field_ids) fields.now }
-    ensures { IfOk result (λ r. r ≡ values_at view.now fields.now cursor.old) }
+    requires { All (λ field. field.id < count_at raw.now field_ids) fields.now }
+    ensures { IfOk result (λ r. r ≡ values_at raw.now fields.now cursor.old) }
 {
     let Some(count) = cursor.uleb().ok() else {
         return Ok(None);
     };
-    values(alloc, view, fields, count, cursor)
+    values(alloc, raw, fields, count, cursor)
 }
 
 /// The static values of a class definition with those members, None where they do not hold. No more are read than there
@@ -173,25 +173,25 @@ fn values_at(
 #[tactic(auto, unfolding(pi_format::specs::Rules::Values::class_values))]
 pub fn class_values(
     alloc: Global,
-    view: &View<'_>,
+    raw: &Raw<'_>,
     rows: &ClassRows,
     i: u32,
 ) -> Result<Option<Values>, AllocError>
-    requires counted { i < count_at view.now class_defs }
-    requires rows { rows.now ≡ rows_of view.now i }
-    ensures { IfOk result (λ r. r ≡ class_values view.now i) }
+    requires counted { i < count_at raw.now class_defs }
+    requires rows { rows.now ≡ rows_of raw.now i }
+    ensures { IfOk result (λ r. r ≡ class_values raw.now i) }
 {
-    let at = view.class_def(i).values_at as usize;
+    let at = raw.class_entry(i).values_at as usize;
     if at == 0 {
         return Ok(Some(Listed::new(alloc)));
     }
-    let file = view.file();
+    let file = raw.file();
     if file.len() < at {
         return Ok(None);
     }
     values_at(
         alloc,
-        view,
+        raw,
         rows.statics.as_slice(),
         &mut Cursor::new(file, at),
     )
@@ -200,17 +200,17 @@ pub fn class_values(
 /// The place of the static values of a class, if they do not hold.
 fn judged(
     alloc: Global,
-    view: &View<'_>,
+    raw: &Raw<'_>,
     rows: &ClassRows,
     i: u32,
 ) -> Result<Option<u32>, AllocError>
-    requires counted { i < count_at view.now class_defs }
-    requires rows { rows.now ≡ rows_of view.now i }
-    ensures { IfOk result (λ r. r ≡ unless (is_some (class_values view.now i)) (class_values_at view.now i)) }
+    requires counted { i < count_at raw.now class_defs }
+    requires rows { rows.now ≡ rows_of raw.now i }
+    ensures { IfOk result (λ r. r ≡ unless (is_some (class_values raw.now i)) (class_values_at raw.now i)) }
 {
-    match class_values(alloc, view, rows, i)? {
+    match class_values(alloc, raw, rows, i)? {
         Some(_) => Ok(None),
-        None => Ok(Some(view.class_def(i).values_at)),
+        None => Ok(Some(raw.class_entry(i).values_at)),
     }
 }
 
@@ -218,15 +218,15 @@ fn judged(
 /// all classes of the file.
 pub fn values_rule(
     alloc: Global,
-    view: &View<'_>,
+    raw: &Raw<'_>,
     table: &RowTable,
 ) -> Result<Option<u32>, AllocError>
-    requires { table.now ≡ listed (rows_of view.now) 0 (count_at view.now class_defs) }
-    ensures { IfOk result (λ r. r ≡ broken_values view.now) }
+    requires { table.now ≡ listed (rows_of raw.now) 0 (count_at raw.now class_defs) }
+    ensures { IfOk result (λ r. r ≡ broken_values raw.now) }
 {
     let mut broken = None;
-    for i in 0..view.class_defs() {
-        broken = lower(broken, judged(alloc, view, table.get(i), i)?);
+    for i in 0..raw.class_defs() {
+        broken = lower(broken, judged(alloc, raw, table.get(i), i)?);
     }
     Ok(broken)
 }

@@ -2,7 +2,8 @@
 use Rattle.std.proofs.Common.{◌≡◌, ◌≢◌, ℕ, ◌+◌, ◌*◌, ◌<◌, ◌≤◌, List, [], length, true, false, Some, None, Option, refl, sym, ap, ◌∙◌, subst, arith}
 use Rattle.std.specs.Prelude.{◌==◌, ◌&&◌, nat_le, nat_lt, is_some, Bool, if◌then◌else◌}
 use Rattle.std.proofs.lemmas.Bool.Decides.{nat_tests}
-use Rattle.pi_format.specs.Bytes.{word_at, ◌>>=◌}
+use Rattle.pi_bytes.specs.Numbers.{word_at}
+use Rattle.pi_insn.specs.Chain.{◌>>=◌}
 use Rattle.pi_format.specs.Rules.CodeItems.{CodeHead, HandlerList, code_head, code_lies, lists_at, ranges_hold, ranges_have_lists, handler_lists, code_lists, code_holds}
 
 pub code_in_file : (file : List ℕ) (at : ℕ) → code_lies file at ≡ true → at + 16 + 2 * word_at file (at + 12) ≤ length file

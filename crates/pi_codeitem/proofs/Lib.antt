@@ -1,5 +1,4 @@
 -- Lemmas on code items.
-pub mod Loops
 pub mod Items
 pub mod Fronts
 pub mod Finds

@@ -4,7 +4,7 @@ use Rattle.std.specs.Prelude.{ℤ, nat_abs, option_map, IfSome, OnSome, if◌the
 use Rattle.pi_bytes.specs.Place.{Place}
 use Rattle.pi_bytes.specs.Leb.{IsWhole, sleb_at}
 use Rattle.pi_format.specs.Rules.Rows.{readable}
-use Rattle.pi_format.specs.Bytes.{◌>>=◌}
+use Rattle.pi_insn.specs.Chain.{◌>>=◌}
 use Rattle.pi_format.specs.Rules.CodeItems.{Handler, HandlerList, handler_at, handler_holds, handlers_from, has_last, last_handler, handler_list, lists_from}
 use Rattle.pi_codeitem.specs.Places.{ArePlaces, AreBelow}
 use Rattle.pi_codeitem.proofs.Finds.{places_push, below_push}

@@ -2,7 +2,7 @@
 use Rattle.std.proofs.Common.{◌≡◌, ℕ, zero, suc, ◌+◌, ◌<◌, List, Bool, true, false, Option, Some, None, refl, add-zero, zero-add, arith, subst}
 use Rattle.std.specs.Prelude.{◌==◌, ◌&&◌, if◌then◌else◌}
 use Rattle.std.proofs.lemmas.Bool.Decides.{nat_tests}
-use Rattle.pi_format.specs.Bytes.{◌>>=◌}
+use Rattle.pi_insn.specs.Chain.{◌>>=◌}
 use Rattle.pi_format.specs.Rules.Entries.{each_from}
 use Rattle.pi_format.specs.Rules.CodeItems.{HandlerList, code_head, tries_at, lists_at, try_range, ranges_hold, ranges_have_lists, handler_lists, is_list_at, code_lists}
 

@@ -1,7 +1,7 @@
 -- Readers that give nothing where what they read does not hold.
 use Rattle.std.specs.Prelude.{◌≡◌, ℕ, Option, Some, None, if◌then◌else◌, List}
 use Rattle.pi_bytes.specs.Place.{Place}
-use Rattle.pi_format.specs.Bytes.{◌>>=◌}
+use Rattle.pi_insn.specs.Chain.{◌>>=◌}
 use Rattle.pi_format.specs.Rules.CodeItems.{Handler, handler_at, handler_holds}
 
 -- a call answers what was to be read, with the new place behind it, or else there was nothing

@@ -1,11 +1,11 @@
 // The head of a code item, and its units.
 
 ghost use Rattle.std.specs.Prelude.{◌≡◌, ◌+◌, ◌*◌, ◌<◌, ◌≤◌, length, true, IfOk};
-ghost use Rattle.pi_format.specs.Bytes.{word_at};
+ghost use Rattle.pi_bytes.specs.Numbers.{word_at};
 ghost use Rattle.pi_format.specs.Rules.CodeItems.{code_head, code_lies};
 ghost use Rattle.pi_format.specs.Rules.Pieces.{code_units};
 
-use crate::bytes::{half, halves, is_in_file, word};
+use pi_bytes::numbers::{half, halves, is_in_file, word};
 use std::alloc::{AllocError, Global};
 use std::marker::Model;
 

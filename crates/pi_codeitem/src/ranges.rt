@@ -4,8 +4,8 @@ ghost use Rattle.std.specs.Prelude.{◌≡◌, ◌+◌, ◌*◌, ◌^◌, ◌<�
 ghost use Rattle.pi_format.specs.Rules.Entries.{each_from};
 ghost use Rattle.pi_format.specs.Rules.CodeItems.{code_head, code_lies, tries_at, lists_at, try_range, range_holds, ranges_hold};
 
-use crate::bytes::{half, is_in_file, word};
 use crate::heads::{CodeHead, head};
+use pi_bytes::numbers::{half, is_in_file, word};
 use std::marker::Model;
 
 /// A range of units with handlers: its first unit, how many it has, and where its list of handlers stands behind the

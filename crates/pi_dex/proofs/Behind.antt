@@ -1,5 +1,5 @@
 -- What a file says behind a program, by its parts.
-use Rattle.std.proofs.Common.{◌≡◌, ℕ, List, length, None, refl, sym, ◌∙◌, subst}
+use Rattle.std.proofs.Common.{◌≡◌, ℕ, List, length, None, refl, sym, ap, ◌∙◌, subst}
 use Rattle.std.specs.Prelude.{OnOk, Result, Ok, Err}
 use Rattle.pi_model.specs.declared.numbers.NameNo.{NameNo}
 use Rattle.pi_model.specs.declared.describe.ClassDesc.{ClassDesc}
@@ -10,16 +10,23 @@ use Rattle.pi_format.specs.Says.{named, with_said, HasRoom, SaysNext}
 use Rattle.pi_format.specs.Says.Classes.{types_said, classes_said}
 use Rattle.pi_format.specs.Says.Names.{Named, texts_of, new_names, name_numbers}
 
--- a file with the numbers that its strings have behind a program
-pub named_is : (p : Program) (file view : List ℕ) (names : Named) (numbers : List NameNo) → names ≡ record { file = view; numbers = numbers } → view ≡ file
-    → numbers ≡ name_numbers p.names file → names ≡ named p file
-named_is p file view names numbers is same e = rw (is, same, e) refl
-
 -- the parts that are added are those that the file says
 pub record AreParts (p : Program) (file : List ℕ) (names : List (List ℕ)) (types : List NameNo) (classes : List ClassDesc) : Type 0 where
   pub names_are : names ≡ new_names p.names (texts_of file)
   pub types_are : types ≡ types_said (named p file)
   pub classes_are : classes ≡ classes_said (named p file) (length p.files)
+
+pub are_parts : (p : Program) (file : List ℕ) (n : Named) (numbers : List NameNo) (k : ℕ) (names : List (List ℕ)) (types : List NameNo) (classes : List ClassDesc)
+    → n ≡ record { file = file; numbers = numbers } → numbers ≡ name_numbers p.names file → k ≡ length p.files
+    → names ≡ new_names p.names (texts_of file) → types ≡ types_said n → classes ≡ classes_said n k → AreParts p file names types classes
+are_parts p file n numbers k names types classes is by_names at new said defined = record {
+  names_are = new;
+  types_are = said ∙ ap types_said named_is;
+  classes_are = defined ∙ ap (λ (m : Named). classes_said m k) named_is ∙ ap (classes_said (named p file)) at;
+}
+  where
+    named_is : n ≡ named p file
+    named_is = rw (is, by_names) refl
 
 pub parts_fit : (p : Program) (file : List ℕ) (names : List (List ℕ)) (types : List NameNo) (classes : List ClassDesc) → AreParts p file names types classes
     → FitsBehind p (new_names p.names (texts_of file)) (types_said (named p file)) (classes_said (named p file) (length p.files)) → FitsBehind p names types classes

@@ -11,7 +11,8 @@ use Rattle.pi_format.specs.Rules.ClassData.{rows_of, methods_in}
 use Rattle.pi_format.specs.Rules.CodeItems.{of_code, code_head, code_lies, code_lists, code_holds, argument_words, broken_code}
 use Rattle.pi_format.specs.Rules.Pieces.{unit_of, code_walk, first_insn, index_holds, broken_index}
 use Rattle.pi_dex.specs.Judged.{code_place, index_place, CodeLies, SaysCode}
-use Rattle.pi_dex.proofs.Lowest.{none_from, none_of, all_weaker, all_both}
+use Rattle.pi_format.proofs.Every.{all_weaker, all_both}
+use Rattle.pi_dex.proofs.Lowest.{none_from, none_of}
 
 both : (a b : Bool) → (a && b) ≡ true → (a ≡ true) × (b ≡ true)
 both true b e = (refl, e)

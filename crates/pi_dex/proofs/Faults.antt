@@ -5,7 +5,8 @@ use Rattle.pi_format.specs.Rules.Rows.{MemberRow}
 use Rattle.pi_format.specs.Rules.ClassData.{rows_of, methods_in}
 use Rattle.pi_dex.specs.declared.walk_rules.Faults.{Faults}
 use Rattle.pi_dex.specs.Judged.{walk_place, index_place, payload_place, row_faults, both_faults, faults_of}
-use Rattle.pi_dex.proofs.Lowest.{from_goes, from_done, of_append, items_go, items_end}
+use Rattle.pi_format.proofs.Loops.{lowest_goes, lowest_done}
+use Rattle.pi_dex.proofs.Lowest.{of_append, items_go, items_end}
 
 abbrev pub of_three : Option ℕ → Option ℕ → Option ℕ → Faults
 of_three walk index payload = record { walk = walk; index = index; payload = payload }
@@ -42,10 +43,10 @@ faults_from file i n = record {
 pub classes_go : (file : List ℕ) (low : Faults) (i n : ℕ) → i < n
     → both_faults (both_faults low (faults_of file (methods_in (rows_of file i)))) (faults_from file (i + 1) (n - (i + 1))) ≡ both_faults low (faults_from file i (n - i))
 classes_go file low i n lt =
-    same_three _ _ _ _ _ _ (from_goes (class_place walk_place file) low.walk i n lt) (from_goes (class_place index_place file) low.index i n lt)
-    (from_goes (class_place payload_place file) low.payload i n lt)
+    same_three _ _ _ _ _ _ (lowest_goes (class_place walk_place file) low.walk i n lt) (lowest_goes (class_place index_place file) low.index i n lt)
+    (lowest_goes (class_place payload_place file) low.payload i n lt)
 
 pub classes_done : (file : List ℕ) (low : Faults) (i n : ℕ) → n ≤ i → both_faults low (faults_from file i (n - i)) ≡ low
 classes_done file low i n le =
-    same_three _ _ _ _ _ _ (from_done (class_place walk_place file) low.walk i n le) (from_done (class_place index_place file) low.index i n le)
-    (from_done (class_place payload_place file) low.payload i n le)
+    same_three _ _ _ _ _ _ (lowest_done (class_place walk_place file) low.walk i n le) (lowest_done (class_place index_place file) low.index i n le)
+    (lowest_done (class_place payload_place file) low.payload i n le)

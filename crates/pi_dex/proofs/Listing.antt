@@ -1,33 +1,14 @@
--- Lists that are filled: images of elements, lists by number, and static fields with their values.
+-- Static fields with their values, as they are filled.
 use Rattle.std.proofs.Common.{◌≡◌, ℕ, zero, suc, ◌+◌, ◌-◌, ◌<◌, ◌≤◌, List, [], ◌∷◌, ◌++◌, length, drop, get_or, map, refl, sym, ap, ◌∙◌, arith, append_assoc}
 use Rattle.std.proofs.Math.ListN.{drop_of_length-le}
-use Rattle.std.proofs.lemmas.List.{drop_more, append-nil}
+use Rattle.std.proofs.lemmas.List.{append-nil}
 use Rattle.pi_model.specs.declared.describe.FieldDesc.{FieldDesc}
 use Rattle.pi_model.specs.declared.describe.Init.TheVariants.{Zero}
-use Rattle.pi_format.specs.Rules.Lowest.{listed}
 use Rattle.pi_format.specs.Rules.Rows.{MemberRow}
 use Rattle.pi_format.specs.Rules.Values.{EncodedValue}
 use Rattle.pi_format.specs.Says.Names.{Named}
 use Rattle.pi_format.specs.Says.Classes.{field_desc, static_fields, init_of}
 use Rattle.pi_dex.specs.Ready.{init_at}
-
-pub map_go : {X A : Type 0} (f : X → A) (done : List A) (xs : List X) (i : ℕ) (x : X) → i < length xs → x ≡ get_or xs i x
-    → (done ++ f x ∷ []) ++ map f (drop (i + 1) xs) ≡ done ++ map f (drop i xs)
-map_go f done xs i x lt is = rw (drop_more xs i x lt, sym is) (append_assoc done (f x ∷ []) (map f (drop (i + 1) xs)))
-
-pub map_end : {X A : Type 0} (f : X → A) (done : List A) (xs : List X) (i : ℕ) → length xs ≤ i → done ++ map f (drop i xs) ≡ done
-map_end f done xs i le = rw (drop_of_length-le xs le) (append-nil done)
-
-pub counted_go : {A : Type 0} (f : ℕ → A) (done : List A) (i n : ℕ) → i < n
-    → (done ++ f i ∷ []) ++ listed f (i + 1) (n - (i + 1)) ≡ done ++ listed f i (n - i)
-counted_go f done i n lt =
-    let more : n - i ≡ suc (n - (i + 1)) = omega arith in
-    rw more (append_assoc done (f i ∷ []) (listed f (i + 1) (n - (i + 1))))
-
-pub counted_end : {A : Type 0} (f : ℕ → A) (done : List A) (i n : ℕ) → n ≤ i → done ++ listed f i (n - i) ≡ done
-counted_end f done i n le =
-    let none : n - i ≡ zero = omega arith in
-    rw none (append-nil done)
 
 drop_nothing : (i : ℕ) (vs : List EncodedValue) → vs ≡ [] → drop i vs ≡ vs
 drop_nothing zero vs e = refl

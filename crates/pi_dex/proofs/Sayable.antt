@@ -12,7 +12,7 @@ use Rattle.pi_format.specs.Rules.Pieces.{broken_index}
 use Rattle.pi_classdata.specs.There.{IsMember, AreMembers}
 use Rattle.pi_dex.specs.Judged.{AreBytes, IsField, IsMethod, AreThere, SaysCode, SaysMethod}
 use Rattle.pi_dex.specs.Ready.{SaysClass, SaysClasses}
-use Rattle.pi_dex.proofs.Lowest.{all_nothing, all_weaker, all_both, all_joined, all_left, all_right}
+use Rattle.pi_format.proofs.Every.{all_nothing, all_weaker, all_both, all_joined, all_left, all_right}
 use Rattle.pi_dex.proofs.Codes.{rows_say}
 use Rattle.pi_dex.proofs.Values.{inits_there}
 use Rattle.pi_dex.proofs.Units.{item_in_file}

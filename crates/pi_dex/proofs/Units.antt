@@ -4,8 +4,7 @@ use Rattle.std.specs.Prelude.{IfSome}
 use Rattle.std.proofs.lemmas.List.{length-drop}
 use Rattle.std.proofs.lemmas.Bool.Decides.{nat_tests}
 use Rattle.pi_insn.specs.declared.raw.RawInsn.{RawInsn}
-use Rattle.pi_format.specs.Bytes.{word_at}
-use Rattle.pi_format.specs.Rules.Entries.{halves_at}
+use Rattle.pi_bytes.specs.Numbers.{word_at, halves_at}
 use Rattle.pi_format.specs.Rules.CodeItems.{code_lies}
 use Rattle.pi_format.specs.Rules.Pieces.{What, Instruction, Payload, Piece, Walk, front_piece, walk_from, walk, code_units, code_walk, first_insn, index_holds, points_well}
 use Rattle.pi_codeitem.specs.Lying.{FillUp, end_of}

@@ -11,7 +11,7 @@ use Rattle.pi_bytes.specs.Reading.{number_at, placed}
 use Rattle.pi_bytes.specs.Leb.{uleb_at, uleb_by}
 use Rattle.pi_bytes.specs.declared.fault.ReadFault.{ReadFault}
 use Rattle.pi_bytes.specs.declared.fault.ReadFault.TheVariants as fault
-use Rattle.pi_format.specs.Bytes.{◌>>=◌}
+use Rattle.pi_insn.specs.Chain.{◌>>=◌}
 use Rattle.pi_model.specs.Texts.{same_text}
 use Rattle.pi_format.specs.Tables.{count_at, string_ids, type_ids}
 use Rattle.pi_format.specs.Rules.Descriptors.{begins_with}
@@ -20,7 +20,7 @@ use Rattle.pi_format.specs.Rules.ClassData.{rows_of, class_values_at}
 use Rattle.pi_format.specs.Rules.Values.{EncodedValue, value_bytes, encoded_value, value_fits, is_reference, names_reference, field_type, values_from, values_at, class_values}
 use Rattle.pi_format.specs.Says.Classes.{values_in}
 use Rattle.pi_dex.specs.Judged.{AreBytes, IsInit}
-use Rattle.pi_dex.proofs.Lowest.{all_nothing, all_more}
+use Rattle.pi_format.proofs.Every.{all_nothing, all_more}
 
 one_more_byte : (b rest power : ℕ) → b < 256 → rest < power → b + 256 * rest < 256 * power
 one_more_byte b rest power lt below = omega (arith, lt, below)

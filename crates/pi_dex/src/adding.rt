@@ -14,9 +14,8 @@ use crate::code_rules::code_rule;
 use crate::members::are_bytes;
 use crate::walk_rules::walk_rules;
 use pi_classdata::{RowTable, read_rows, rows_are_members, values_rule};
-use pi_dexnames::{Named, Numbered, number};
+use pi_dexcode::{Named, Numbered, number};
 use pi_dexraw::{DexFault, Raw};
-use pi_dexview::View;
 use pi_model::prog::Prog;
 use pi_said::{said_fits, said_has_room};
 use std::alloc::{AllocError, Global};
@@ -25,18 +24,18 @@ use std::alloc::{AllocError, Global};
 #[tactic(auto, using(crate::proofs::Told::last_told), unfolding(pi_format::specs::Rules::broken_content_rule))]
 fn ask_content(
     alloc: Global,
-    view: &View<'_>,
+    raw: &Raw<'_>,
     table: &RowTable,
     broken: Option<u32>,
 ) -> Result<(), DexFault>
-    requires table { table.now ≡ listed (rows_of view.now) 0 (count_at view.now class_defs) }
-    requires broken { broken ≡ broken_class_data view.now }
-    ensures { Tells (broken_content_rule view.now) result }
+    requires table { table.now ≡ listed (rows_of raw.now) 0 (count_at raw.now class_defs) }
+    requires broken { broken ≡ broken_class_data raw.now }
+    ensures { Tells (broken_content_rule raw.now) result }
 {
     ask(18, broken)?;
-    ask(19, values_rule(alloc, view, table)?)?;
-    ask(20, code_rule(alloc, view, table)?)?;
-    let faults = walk_rules(alloc, view, table)?;
+    ask(19, values_rule(alloc, raw, table)?)?;
+    ask(20, code_rule(alloc, raw, table)?)?;
+    let faults = walk_rules(alloc, raw, table)?;
     ask(21, faults.walk)?;
     ask(22, faults.index)?;
     ask(23, faults.payload)
@@ -47,14 +46,12 @@ fn add(
     alloc: Global,
     prog: &mut Prog,
     raw: &Raw<'_>,
-    view: &View<'_>,
     table: &RowTable,
 ) -> Result<(), AllocError>
     requires files { length prog.old.files < 8 }
     requires room { HasRoom prog.old }
-    requires same { view.now ≡ raw.now }
     requires kept { broken_content_rule raw.now ≡ None }
-    requires table { table.now ≡ listed (rows_of view.now) 0 (count_at view.now class_defs) }
+    requires table { table.now ≡ listed (rows_of raw.now) 0 (count_at raw.now class_defs) }
     ensures said { OnOk result (SaysNext prog.old raw.now prog.new) }
     ensures room { OnOk result (HasRoom prog.new) }
     ensures same { OnErr result (prog.new ≡ prog.old) }
@@ -63,10 +60,9 @@ fn add(
     said_fits();
     said_has_room();
     rows_are_members();
-    let file = raw.bytes();
-    are_bytes(file);
+    are_bytes(raw.file());
     let Numbered { new, numbers } = number(alloc, prog, raw)?;
-    let names = Named::new(view, numbers.as_slice());
+    let names = Named::new(raw, numbers.as_slice());
     let types = types(alloc, &names)?;
     let classes = classes(alloc, &names, prog.files(), table)?;
     prog.add_file(new, types, classes)
@@ -81,10 +77,9 @@ fn append_raw(alloc: Global, prog: &mut Prog, raw: &Raw<'_>) -> Result<(), DexFa
     ensures room { OnOk result (HasRoom prog.new) }
     ensures same { OnErr result (prog.new ≡ prog.old) }
 {
-    let view = View::new(alloc, raw)?;
-    let (broken, table) = read_rows(alloc, &view)?;
-    ask_content(alloc, &view, &table, broken)?;
-    add(alloc, prog, raw, &view, &table)?;
+    let (broken, table) = read_rows(alloc, raw)?;
+    ask_content(alloc, raw, &table, broken)?;
+    add(alloc, prog, raw, &table)?;
     Ok(())
 }
 

@@ -17,7 +17,7 @@ use crate::inits::init_of;
 use crate::members::members;
 use pi_classdata::{ClassRows, EncodedValue, MemberRow, RowTable, Values, class_values};
 use pi_dexcode::code;
-use pi_dexnames::Named;
+use pi_dexcode::Named;
 use pi_model::describe::{ClassDesc, Classes, Code, FieldDesc, Fields, Init, MethodDesc, Methods};
 use pi_model::listed::Names;
 use pi_model::numbers::{FileNo, NameNo};
@@ -28,7 +28,7 @@ fn field_desc(names: &Named<'_>, init: Init, row: &MemberRow) -> FieldDesc
     requires { IsField names.now.file row.now }
     ensures { result ≡ field_desc names.now init row.now }
 {
-    let field = names.view().field(row.id);
+    let field = names.raw().field_entry(row.id);
     FieldDesc {
         name: names.string_name(field.name),
         ty: names.type_name(field.kind),
@@ -69,7 +69,7 @@ fn add_statics(
 }
 
 /// Adds the instance fields of a class.
-#[tactic(auto, using(crate::proofs::Listing::map_go, crate::proofs::Listing::map_end))]
+#[tactic(auto, using(pi_format::proofs::Loops::map_go, pi_format::proofs::Loops::map_end))]
 fn add_instances(
     names: &Named<'_>,
     fields: &mut Fields,
@@ -118,7 +118,7 @@ fn method_desc(alloc: Global, names: &Named<'_>, row: &MemberRow) -> Result<Meth
     requires { SaysMethod names.now.file row.now }
     ensures { IfOk result (λ method. method ≡ method_desc names.now row.now) }
 {
-    let method = names.view().method(row.id);
+    let method = names.raw().method_entry(row.id);
     let (name, proto) = (method.name, method.kind);
     let params = names.param_names(alloc, proto)?;
     let code = code_of(alloc, names, row.code)?;
@@ -132,7 +132,7 @@ fn method_desc(alloc: Global, names: &Named<'_>, row: &MemberRow) -> Result<Meth
 }
 
 /// Adds the methods of rows.
-#[tactic(auto, using(crate::proofs::Listing::map_go, crate::proofs::Listing::map_end))]
+#[tactic(auto, using(pi_format::proofs::Loops::map_go, pi_format::proofs::Loops::map_end))]
 fn add_methods(
     alloc: Global,
     names: &Named<'_>,
@@ -197,10 +197,10 @@ fn class(
     requires says { SaysClass names.now.file i }
     ensures { IfOk result (λ class. class ≡ class_desc names.now number i) }
 {
-    let view = names.view();
-    let def = view.class_def(i);
-    let faces = view.faces(alloc, i)?;
-    let values = class_values(alloc, view, rows, i)?;
+    let view = names.raw();
+    let def = raw.class_entry(i);
+    let faces = raw.faces(alloc, i)?;
+    let values = class_values(alloc, raw, rows, i)?;
     let fields = fields(alloc, names, rows, values_of(&values))?;
     let methods = methods(alloc, names, rows)?;
     Ok(ClassDesc {
@@ -226,8 +226,8 @@ pub(crate) fn classes(
     ensures { IfOk result (λ classes. classes ≡ classes_said names.now number) }
 {
     let mut classes = Classes::new(alloc);
-    for i in 0..names.view().class_defs() {
-        let class = class(alloc, names, number, members(names.view(), table, i), i)?;
+    for i in 0..names.raw().class_defs() {
+        let class = class(alloc, names, number, members(names.raw(), table, i), i)?;
         classes.push(class)?;
     }
     Ok(classes)
@@ -238,7 +238,7 @@ pub(crate) fn types(alloc: Global, names: &Named<'_>) -> Result<Names, AllocErro
     ensures { IfOk result (λ types. types ≡ types_said names.now) }
 {
     let mut types = Names::new(alloc);
-    for t in 0..names.view().types() {
+    for t in 0..names.raw().types() {
         types.push(names.type_name(t))?;
     }
     Ok(types)

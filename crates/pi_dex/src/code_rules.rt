@@ -13,19 +13,19 @@ use crate::places::lower;
 use crate::words::argument_words;
 use pi_classdata::{ClassRows, MemberRow, RowTable};
 use pi_codeitem::holds;
-use pi_dexview::View;
+use pi_dexraw::Raw;
 use std::alloc::{AllocError, Global};
 
 /// The place of a method's code item, where it does not hold.
-fn broken_item(alloc: Global, view: &View<'_>, row: &MemberRow) -> Result<Option<u32>, AllocError>
-    requires { IsMethod view.now row.now }
-    ensures { IfOk result (λ r. r ≡ code_place view.now row.now) }
+fn broken_item(alloc: Global, raw: &Raw<'_>, row: &MemberRow) -> Result<Option<u32>, AllocError>
+    requires { IsMethod raw.now row.now }
+    ensures { IfOk result (λ r. r ≡ code_place raw.now row.now) }
 {
     if row.code == 0 {
         return Ok(None);
     }
-    let file = view.file();
-    let words = argument_words(alloc, view, row)?;
+    let file = raw.file();
+    let words = argument_words(alloc, raw, row)?;
     if holds(alloc, file, row.code as usize, words)? {
         Ok(None)
     } else {
@@ -36,15 +36,15 @@ fn broken_item(alloc: Global, view: &View<'_>, row: &MemberRow) -> Result<Option
 /// The lowest of methods one after the other.
 fn lowest_item(
     alloc: Global,
-    view: &View<'_>,
+    raw: &Raw<'_>,
     rows: &[MemberRow],
 ) -> Result<Option<u32>, AllocError>
-    requires { All (IsMethod view.now) rows.now }
-    ensures { IfOk result (λ r. r ≡ lowest_of (code_place view.now) rows.now) }
+    requires { All (IsMethod raw.now) rows.now }
+    ensures { IfOk result (λ r. r ≡ lowest_of (code_place raw.now) rows.now) }
 {
     let mut lowest = None;
     for i in 0..rows.len() {
-        lowest = lower(lowest, broken_item(alloc, view, &rows[i])?);
+        lowest = lower(lowest, broken_item(alloc, raw, &rows[i])?);
     }
     Ok(lowest)
 }
@@ -52,30 +52,30 @@ fn lowest_item(
 /// The lowest of the methods of a class.
 fn lowest_in_class(
     alloc: Global,
-    view: &View<'_>,
+    raw: &Raw<'_>,
     rows: &ClassRows,
 ) -> Result<Option<u32>, AllocError>
-    requires directs { All (IsMethod view.now) rows.now.directs }
-    requires virtuals { All (IsMethod view.now) rows.now.virtuals }
-    ensures { IfOk result (λ r. r ≡ lowest_of (code_place view.now) (methods_in rows.now)) }
+    requires directs { All (IsMethod raw.now) rows.now.directs }
+    requires virtuals { All (IsMethod raw.now) rows.now.virtuals }
+    ensures { IfOk result (λ r. r ≡ lowest_of (code_place raw.now) (methods_in rows.now)) }
 {
-    let direct = lowest_item(alloc, view, rows.directs.as_slice())?;
-    let virtual_ = lowest_item(alloc, view, rows.virtuals.as_slice())?;
+    let direct = lowest_item(alloc, raw, rows.directs.as_slice())?;
+    let virtual_ = lowest_item(alloc, raw, rows.virtuals.as_slice())?;
     Ok(lower(direct, virtual_))
 }
 
 /// X20: the code item of each method that has code holds.
 pub(crate) fn code_rule(
     alloc: Global,
-    view: &View<'_>,
+    raw: &Raw<'_>,
     table: &RowTable,
 ) -> Result<Option<u32>, AllocError>
-    requires { table.now ≡ listed (rows_of view.now) 0 (count_at view.now class_defs) }
-    ensures { IfOk result (λ r. r ≡ broken_code view.now) }
+    requires { table.now ≡ listed (rows_of raw.now) 0 (count_at raw.now class_defs) }
+    ensures { IfOk result (λ r. r ≡ broken_code raw.now) }
 {
     let mut lowest = None;
-    for i in 0..view.class_defs() {
-        let here = lowest_in_class(alloc, view, members(view, table, i))?;
+    for i in 0..raw.class_defs() {
+        let here = lowest_in_class(alloc, raw, members(raw, table, i))?;
         lowest = lower(lowest, here);
     }
     Ok(lowest)

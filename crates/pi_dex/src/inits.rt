@@ -6,7 +6,7 @@ ghost use Rattle.pi_insn.specs.Numbers.{extended};
 ghost use Rattle.pi_dex.specs.Judged.{IsInit};
 
 use pi_classdata::EncodedValue;
-use pi_dexnames::Named;
+use pi_dexcode::Named;
 use pi_model::describe::Init;
 
 /// A value of 32 bits; 0 is as no value.

@@ -7,14 +7,14 @@ ghost use Rattle.pi_format.specs.Rules.ClassData.{rows_of};
 ghost use Rattle.pi_dex.specs.Judged.{AreThere, AreBytes};
 
 use pi_classdata::{ClassRows, RowTable, rows_are_members};
-use pi_dexview::View;
+use pi_dexraw::Raw;
 
 /// The members of the class of a definition.
-pub(crate) fn members<'t>(view: &View<'_>, table: &'t RowTable, i: u32) -> &'t ClassRows
-    requires counted { i < count_at view.now class_defs }
-    requires table { table.now ≡ listed (rows_of view.now) 0 (count_at view.now class_defs) }
-    ensures rows { result.now ≡ rows_of view.now i }
-    ensures there { AreThere view.now result.now }
+pub(crate) fn members<'t>(raw: &Raw<'_>, table: &'t RowTable, i: u32) -> &'t ClassRows
+    requires counted { i < count_at raw.now class_defs }
+    requires table { table.now ≡ listed (rows_of raw.now) 0 (count_at raw.now class_defs) }
+    ensures rows { result.now ≡ rows_of raw.now i }
+    ensures there { AreThere raw.now result.now }
 {
     rows_are_members();
     table.get(i)

@@ -13,7 +13,7 @@ use crate::members::members;
 use crate::places::{lower, unit_place};
 use pi_classdata::{ClassRows, MemberRow, RowTable};
 use pi_codeitem::{broken_index, broken_payload, pieces_fill_up, units, walk};
-use pi_dexview::View;
+use pi_dexraw::Raw;
 use std::alloc::{AllocError, Global};
 
 /// The lowest places at which rules on units are broken: where no instruction stands, where an index is out of range, and
@@ -50,12 +50,12 @@ impl Faults {
 }
 
 /// The faults of a code item that is in the file.
-fn code_faults(alloc: Global, view: &View<'_>, at: u32) -> Result<Faults, AllocError>
-    requires { code_lies view.now at ≡ true }
-    ensures { IfOk result (λ f. f ≡ code_faults view.now at) }
+fn code_faults(alloc: Global, raw: &Raw<'_>, at: u32) -> Result<Faults, AllocError>
+    requires { code_lies raw.now at ≡ true }
+    ensures { IfOk result (λ f. f ≡ code_faults raw.now at) }
 {
     pieces_fill_up();
-    let file = view.file();
+    let file = raw.file();
     let units = units(alloc, file, at as usize)?;
     let walk = walk(alloc, units.as_slice())?;
     Ok(Faults {
@@ -66,55 +66,55 @@ fn code_faults(alloc: Global, view: &View<'_>, at: u32) -> Result<Faults, AllocE
 }
 
 /// The faults of a method's code item, none where it has none.
-fn item_faults(alloc: Global, view: &View<'_>, row: &MemberRow) -> Result<Faults, AllocError>
-    requires { CodeLies view.now row.now }
-    ensures { IfOk result (λ f. f ≡ row_faults view.now row.now) }
+fn item_faults(alloc: Global, raw: &Raw<'_>, row: &MemberRow) -> Result<Faults, AllocError>
+    requires { CodeLies raw.now row.now }
+    ensures { IfOk result (λ f. f ≡ row_faults raw.now row.now) }
 {
     if row.code == 0 {
         Ok(Faults::none())
     } else {
-        code_faults(alloc, view, row.code)
+        code_faults(alloc, raw, row.code)
     }
 }
 
 /// The faults of methods one after the other.
-fn all_faults(alloc: Global, view: &View<'_>, rows: &[MemberRow]) -> Result<Faults, AllocError>
-    requires { All (CodeLies view.now) rows.now }
-    ensures { IfOk result (λ f. f ≡ faults_of view.now rows.now) }
+fn all_faults(alloc: Global, raw: &Raw<'_>, rows: &[MemberRow]) -> Result<Faults, AllocError>
+    requires { All (CodeLies raw.now) rows.now }
+    ensures { IfOk result (λ f. f ≡ faults_of raw.now rows.now) }
 {
     let mut lowest = Faults::none();
     for i in 0..rows.len() {
-        lowest = lowest.both(item_faults(alloc, view, &rows[i])?);
+        lowest = lowest.both(item_faults(alloc, raw, &rows[i])?);
     }
     Ok(lowest)
 }
 
 /// The faults of the methods of a class.
-fn class_faults(alloc: Global, view: &View<'_>, rows: &ClassRows) -> Result<Faults, AllocError>
-    requires directs { All (CodeLies view.now) rows.now.directs }
-    requires virtuals { All (CodeLies view.now) rows.now.virtuals }
-    ensures { IfOk result (λ f. f ≡ faults_of view.now (methods_in rows.now)) }
+fn class_faults(alloc: Global, raw: &Raw<'_>, rows: &ClassRows) -> Result<Faults, AllocError>
+    requires directs { All (CodeLies raw.now) rows.now.directs }
+    requires virtuals { All (CodeLies raw.now) rows.now.virtuals }
+    ensures { IfOk result (λ f. f ≡ faults_of raw.now (methods_in rows.now)) }
 {
-    let direct = all_faults(alloc, view, rows.directs.as_slice())?;
-    let virtual_ = all_faults(alloc, view, rows.virtuals.as_slice())?;
+    let direct = all_faults(alloc, raw, rows.directs.as_slice())?;
+    let virtual_ = all_faults(alloc, raw, rows.virtuals.as_slice())?;
     Ok(direct.both(virtual_))
 }
 
 /// X21 to X23: from unit 0 on there are instructions and payloads, indices are in range, and payloads fit.
 pub(crate) fn walk_rules(
     alloc: Global,
-    view: &View<'_>,
+    raw: &Raw<'_>,
     table: &RowTable,
 ) -> Result<Faults, AllocError>
-    requires table { table.now ≡ listed (rows_of view.now) 0 (count_at view.now class_defs) }
-    requires code { broken_code view.now ≡ None }
-    ensures walk { IfOk result (λ f. f.walk ≡ broken_walk view.now) }
-    ensures index { IfOk result (λ f. f.index ≡ broken_index view.now) }
-    ensures payload { IfOk result (λ f. f.payload ≡ broken_payload view.now) }
+    requires table { table.now ≡ listed (rows_of raw.now) 0 (count_at raw.now class_defs) }
+    requires code { broken_code raw.now ≡ None }
+    ensures walk { IfOk result (λ f. f.walk ≡ broken_walk raw.now) }
+    ensures index { IfOk result (λ f. f.index ≡ broken_index raw.now) }
+    ensures payload { IfOk result (λ f. f.payload ≡ broken_payload raw.now) }
 {
     let mut lowest = Faults::none();
-    for i in 0..view.class_defs() {
-        let here = class_faults(alloc, view, members(view, table, i))?;
+    for i in 0..raw.class_defs() {
+        let here = class_faults(alloc, raw, members(raw, table, i))?;
         lowest = lowest.both(here);
     }
     Ok(lowest)

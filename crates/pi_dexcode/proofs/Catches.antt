@@ -5,7 +5,7 @@ use Rattle.std.specs.List.{All}
 use Rattle.std.proofs.lemmas.Bool.Decides.{nat_tests}
 use Rattle.std.proofs.lemmas.List.Elements.{All-head, All-tail}
 use Rattle.pi_model.specs.declared.describe.Catch.{Catch}
-use Rattle.pi_format.specs.Bytes.{word_at}
+use Rattle.pi_bytes.specs.Numbers.{word_at}
 use Rattle.pi_format.specs.Rules.Entries.{each_from}
 use Rattle.pi_format.specs.Rules.CodeItems.{HandlerList, TryRange, CodeHead, code_head, code_lies, tries_at, lists_at, try_range, range_holds, ranges_hold}
 use Rattle.pi_format.specs.Says.Names.{Named}

@@ -5,3 +5,5 @@ mod Payloads
 mod Catches
 mod Types
 mod Walks
+mod Noting
+mod Mapped

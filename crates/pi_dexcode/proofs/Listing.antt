@@ -1,5 +1,5 @@
 -- Lists by number, as they are filled.
-use Rattle.std.proofs.Common.{◌≡◌, ℕ, zero, suc, ◌+◌, ◌-◌, ◌<◌, ◌≤◌, List, [], ◌∷◌, ◌++◌, length, drop, get_or, flat_map, map, refl, sym, arith, append_assoc}
+use Rattle.std.proofs.Common.{◌≡◌, ℕ, zero, suc, ◌+◌, ◌-◌, ◌<◌, ◌≤◌, List, [], ◌∷◌, ◌++◌, length, drop, get_or, flat_map, refl, sym, arith, append_assoc}
 use Rattle.std.proofs.Math.ListN.{drop_of_length-le}
 use Rattle.std.proofs.lemmas.List.{drop_more, append-nil}
 use Rattle.pi_format.specs.Rules.Lowest.{listed}
@@ -11,13 +11,6 @@ listed_go f done from i n lt =
     let more : n - i ≡ suc (n - (i + 1)) = omega arith in
     let place : from + i + 1 ≡ from + (i + 1) = omega arith in
     rw (more, place) (append_assoc done (f (from + i) ∷ []) (listed f (from + (i + 1)) (n - (i + 1))))
-
--- the same from 0 on
-pub counted_go : {A : Type 0} (f : ℕ → A) (done : List A) (i n : ℕ) → i < n
-    → (done ++ f i ∷ []) ++ listed f (i + 1) (n - (i + 1)) ≡ done ++ listed f i (n - i)
-counted_go f done i n lt =
-    let more : n - i ≡ suc (n - (i + 1)) = omega arith in
-    rw more (append_assoc done (f i ∷ []) (listed f (i + 1) (n - (i + 1))))
 
 -- what functions of numbers give one behind the other, one more of n
 pub flat_go : {A : Type 0} (f : ℕ → List A) (done : List A) (i n : ℕ) → i < n
@@ -36,17 +29,10 @@ flat_begin f n =
     let all : n - 0 ≡ n = omega arith in
     rw all refl
 
--- what a function of the elements of a list gives, and the images of these, one more of them
+-- what a function of the elements of a list gives, one more of them
 pub rest_go : {X A : Type 0} (f : X → List A) (done : List A) (xs : List X) (i : ℕ) (x : X) → i < length xs → x ≡ get_or xs i x
     → (done ++ f x) ++ flat_map f (drop (i + 1) xs) ≡ done ++ flat_map f (drop i xs)
 rest_go f done xs i x lt is = rw (drop_more xs i x lt, sym is) (append_assoc done (f x) (flat_map f (drop (i + 1) xs)))
 
 pub rest_end : {X A : Type 0} (f : X → List A) (done : List A) (xs : List X) (i : ℕ) → length xs ≤ i → done ++ flat_map f (drop i xs) ≡ done
 rest_end f done xs i le = rw (drop_of_length-le xs le) (append-nil done)
-
-pub map_go : {X A : Type 0} (f : X → A) (done : List A) (xs : List X) (i : ℕ) (x : X) → i < length xs → x ≡ get_or xs i x
-    → (done ++ f x ∷ []) ++ map f (drop (i + 1) xs) ≡ done ++ map f (drop i xs)
-map_go f done xs i x lt is = rw (drop_more xs i x lt, sym is) (append_assoc done (f x ∷ []) (map f (drop (i + 1) xs)))
-
-pub map_end : {X A : Type 0} (f : X → A) (done : List A) (xs : List X) (i : ℕ) → length xs ≤ i → done ++ map f (drop i xs) ≡ done
-map_end f done xs i le = rw (drop_of_length-le xs le) (append-nil done)

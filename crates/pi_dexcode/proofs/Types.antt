@@ -6,7 +6,7 @@ use Rattle.std.proofs.lemmas.Bool.Decides.{nat_tests}
 use Rattle.std.proofs.lemmas.List.Elements.{All-nil, All-cons}
 use Rattle.pi_bytes.specs.Place.{Place}
 use Rattle.pi_bytes.specs.Leb.{uleb_at, sleb_at}
-use Rattle.pi_format.specs.Bytes.{◌>>=◌}
+use Rattle.pi_insn.specs.Chain.{◌>>=◌}
 use Rattle.pi_format.specs.Tables.{count_at, type_ids}
 use Rattle.pi_format.specs.Rules.Rows.{readable}
 use Rattle.pi_format.specs.Rules.CodeItems.{Handler, HandlerList, handler_at, handler_holds, handlers_from, has_last, last_handler, handler_list, lists_from, handler_lists, code_head, lists_at, ranges_hold, ranges_have_lists, code_lists}

@@ -8,8 +8,7 @@ use Rattle.pi_insn.specs.declared.raw.RawInsn.{RawInsn}
 use Rattle.pi_insn.specs.declared.raw.InsnError.{InsnError}
 use Rattle.pi_insn.specs.Reading.{decoded}
 use Rattle.pi_insn.specs.Payloads.{Data, payload}
-use Rattle.pi_format.specs.Bytes.{word_at}
-use Rattle.pi_format.specs.Rules.Entries.{halves_at}
+use Rattle.pi_bytes.specs.Numbers.{word_at, halves_at}
 use Rattle.pi_format.specs.Rules.CodeItems.{code_lies}
 use Rattle.pi_format.specs.Rules.Pieces.{Piece, address, payload_found, found_at, payload_of, What, Instruction, Payload, Walk, payload_units, front_piece, with_piece, walk_from, walk, code_units, first_insn, index_holds}
 use Rattle.pi_dexcode.specs.Whole.{IsWhole, WhatIsWhole, AreWhole, WhatIsThere, NamesIndex}

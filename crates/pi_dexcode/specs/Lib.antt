@@ -1,2 +1,3 @@
--- Payloads that stand whole.
+-- Names one after another, and payloads that stand whole.
+pub mod Noting
 pub mod Whole

@@ -14,7 +14,7 @@ use pi_codeitem::{
     CodeHead, Handler, HandlerList, HandlerLists, Piece, TryRange, Walk, What, handlers, head,
     lists_at, ranges_stand, try_range, units, walk,
 };
-use pi_dexnames::Named;
+use crate::named::Named;
 use pi_model::describe::{Catch, Code, Insns, Line, Tries};
 use std::alloc::{AllocError, Global};
 
@@ -46,7 +46,7 @@ fn add_typed(
 }
 
 /// Adds the entries of a range for typed handlers.
-#[tactic(auto, using(crate::proofs::Listing::map_go, crate::proofs::Listing::map_end))]
+#[tactic(auto, using(pi_format::proofs::Loops::map_go, pi_format::proofs::Loops::map_end))]
 fn add_all_typed(
     names: &Named<'_>,
     tries: &mut Tries,
@@ -112,7 +112,7 @@ fn add_range(
     requires types { AllNameTypes (count_at names.now.file type_ids) lists.now }
     ensures { OnOk result (tries.new ≡ tries.old ++ catches_at names.now at head.now lists.now k) }
 {
-    let range = try_range(names.view().file(), at, k);
+    let range = try_range(names.raw().file(), at, k);
     let place = lists_at(at, head) + range.handlers as usize;
     match lists.find(place as u32) {
         None => Ok(()),
@@ -190,7 +190,7 @@ pub fn code(alloc: Global, names: &Named<'_>, at: usize) -> Result<Code, AllocEr
     requires indices { first_insn (λ a i. index_holds names.now.file i.body) (code_walk names.now.file at).pieces ≡ None }
     ensures { IfOk result (λ code. code ≡ code_at names.now at) }
 {
-    let file = names.view().file();
+    let file = names.raw().file();
     let head = head(file, at);
     let units = units(alloc, file, at)?;
     let walk = walk(alloc, units.as_slice())?;

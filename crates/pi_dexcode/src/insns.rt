@@ -9,7 +9,7 @@ use crate::data::{cases, items, width};
 use crate::numbers::target;
 use crate::regs::regs_of;
 use pi_codeitem::Walk;
-use pi_dexnames::Named;
+use crate::named::Named;
 use pi_insn::RawBody;
 use pi_model::insn::{Cases, Insn, Items};
 use std::alloc::{AllocError, Global};

@@ -3,8 +3,8 @@ use Rattle.std.proofs.Common.{◌≡◌, ◌≢◌, ℕ, zero, suc, ◌+◌, ◌
 use Rattle.std.specs.Prelude.{◌==◌}
 use Rattle.std.proofs.lemmas.Bool.Decides.{nat_tests}
 use Rattle.std.proofs.lemmas.List.{append-nil}
-use Rattle.pi_format.specs.Bytes.{half_at, word_at}
-use Rattle.pi_format.specs.Rules.Entries.{list_fits, halves_at, list_at}
+use Rattle.pi_bytes.specs.Numbers.{half_at, word_at, halves_at}
+use Rattle.pi_format.specs.Rules.Entries.{list_fits, list_at}
 
 length_halves : (file : List ℕ) (at n : ℕ) → length (halves_at file at n) ≡ n
 length_halves file at zero = refl

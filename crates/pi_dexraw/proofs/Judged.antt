@@ -10,10 +10,11 @@ use Rattle.pi_format.specs.Rules.Entries.{list_fits, list_at}
 use Rattle.pi_format.specs.Rules.Descriptors.{is_class_type}
 use Rattle.pi_format.specs.Rules.Strings.{type_units}
 use Rattle.pi_format.specs.Rules.Classes.{is_class_id, stands_earlier}
-use Rattle.pi_dexraw.specs.Whole.{HasTables}
-use Rattle.pi_dexraw.specs.Facts.{AreFacts, AreFaces, AreJudged, AreKnown}
-use Rattle.pi_dexraw.proofs.Params.{all_first}
-use Rattle.pi_dexraw.proofs.Lists.{get_set_same, get_set_other, length_set, inside, some_is}
+use Rattle.pi_dexids.specs.Tables.{HasTables}
+use Rattle.pi_dexids.specs.Facts.{AreFacts}
+use Rattle.pi_dexraw.specs.Interfaces.{AreFaces, AreJudged, AreKnown}
+use Rattle.pi_format.proofs.Held.{both}
+use Rattle.pi_dexids.proofs.Lists.{get_set_same, get_set_other, length_set, inside, some_is}
 
 pub second_greater : (a b i : ℕ) → a < b → nat_le b i ≡ (nat_le a i && nat_le b i)
 second_greater a b i lt = grind (arith, nat_tests)
@@ -33,9 +34,9 @@ no_first : (a b : Bool) → a ≡ false → (a && b) ≡ false
 no_first true b e = cc
 no_first false b e = refl
 
-both : (a b c : Bool) → a ≡ true → b ≡ c → (a && b) ≡ c
-both true b c e f = f
-both false b c e f = cc
+first_passes : (a b c : Bool) → a ≡ true → b ≡ c → (a && b) ≡ c
+first_passes true b c e f = f
+first_passes false b c e f = cc
 
 all_of_both : (a b : Bool) → b ≡ true → (a && b) ≡ a
 all_of_both true b e = e
@@ -43,7 +44,7 @@ all_of_both false b e = refl
 
 -- a class is one of the types
 pub class_in_range : (file : List ℕ) (t : ℕ) → is_class_id file t ≡ true → t < count_at file type_ids
-class_in_range file t e = below t (count_at file type_ids) ((all_first (nat_lt t (count_at file type_ids)) (is_class_type (type_units file t)) e).0)
+class_in_range file t e = below t (count_at file type_ids) ((both (nat_lt t (count_at file type_ids)) (is_class_type (type_units file t)) e).0)
   where
     below : (a b : ℕ) → nat_lt a b ≡ true → a < b
     below a b e = grind (arith, nat_tests)
@@ -71,7 +72,7 @@ face_goes file faces i k a b c lt class earlier e =
     let rest = list_all (λ t. is_class_id file t && stands_earlier file i t) (drop (k + 1) faces) in
     rw (drop_more faces k 0 lt)
     (joined (nat_le a i) (nat_le b i) (is_class_id file x && stands_earlier file i x) (nat_le c i) rest
-    (both (is_class_id file x) (stands_earlier file i x) (nat_le b i) class earlier) e)
+    (first_passes (is_class_id file x) (stands_earlier file i x) (nat_le b i) class earlier) e)
 
 -- classes that are distinct, types that are not all classes, and types that are not distinct
 pub both_judged : (file faces : List ℕ) (from : Option ℕ) → AreFaces file faces from → all_distinct nat_eq faces ≡ true → AreJudged file faces from

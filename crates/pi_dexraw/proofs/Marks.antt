@@ -6,7 +6,7 @@ use Rattle.std.proofs.lemmas.Bool.Decides.{nat_tests}
 use Rattle.std.proofs.Math.ListN.{drop_of_length-le}
 use Rattle.std.proofs.lemmas.List.{drop_more, get_or-set_same, get_or-set_other, length-set}
 use Rattle.pi_model.specs.Distinct.{all_distinct}
-use Rattle.pi_dexraw.specs.Facts.{AreInRange}
+use Rattle.pi_dexraw.specs.Interfaces.{AreInRange}
 
 -- what is marked are the numbers of a list that is distinct, and no mark is above that one
 pub record AreMarked (mark n : ℕ) (list marks : List ℕ) : Type 0 where

@@ -11,7 +11,8 @@ use Rattle.pi_format.specs.Rules.Entries.{list_fits, list_at}
 use Rattle.pi_format.specs.Rules.Descriptors.{words_of_type, begins_with, is_void}
 use Rattle.pi_format.specs.Rules.Strings.{type_units}
 use Rattle.pi_format.specs.Rules.Members.{ProtoEntry, is_value_type, params_hold, short_agrees, proto_fits, proto_entry, proto_rises, proto_holds}
-use Rattle.pi_dexraw.specs.Facts.{AreInRange}
+use Rattle.pi_format.proofs.Held.{both}
+use Rattle.pi_dexraw.specs.Interfaces.{AreInRange}
 
 -- a test of all elements, one after another
 pub all_goes : (p : ℕ → Bool) (xs : List ℕ) (i : ℕ) → i < length xs → p (get_or xs i 0) ≡ true → list_all p (drop (i + 1) xs) ≡ list_all p (drop i xs)
@@ -39,18 +40,14 @@ pub map_ends : (f : ℕ → ℕ) (done xs : List ℕ) (i : ℕ) → length xs �
 map_ends f done xs i le = rw (drop_of_length-le xs le) (append-nil done)
 
 -- what all elements pass, each passes
-pub all_first : (a b : Bool) → (a && b) ≡ true → (a ≡ true) × (b ≡ true)
-all_first true b e = (refl, e)
-all_first false b e = cc
-
 pub each_passes : (p : ℕ → Bool) (xs : List ℕ) (k : ℕ) → list_all p xs ≡ true → k < length xs → p (get_or xs k 0) ≡ true
 each_passes p [] k e lt = absurd (omega arith)
-each_passes p (x ∷ xs) zero e lt = (all_first (p x) (list_all p xs) e).0
-each_passes p (x ∷ xs) (suc k) e lt = each_passes p xs k ((all_first (p x) (list_all p xs) e).1) (omega arith)
+each_passes p (x ∷ xs) zero e lt = (both (p x) (list_all p xs) e).0
+each_passes p (x ∷ xs) (suc k) e lt = each_passes p xs k ((both (p x) (list_all p xs) e).1) (omega arith)
 
 -- a value is one of the types
 pub value_in_range : (file : List ℕ) (t : ℕ) → is_value_type file t ≡ true → t < count_at file type_ids
-value_in_range file t e = below t (count_at file type_ids) ((all_first (nat_lt t (count_at file type_ids)) (not (is_void (type_units file t))) e).0)
+value_in_range file t e = below t (count_at file type_ids) ((both (nat_lt t (count_at file type_ids)) (not (is_void (type_units file t))) e).0)
   where
     below : (a b : ℕ) → nat_lt a b ≡ true → a < b
     below a b e = grind (arith, nat_tests)
@@ -60,7 +57,7 @@ pub params_in_range : (file params : List ℕ) → params_hold file params ≡ t
 unfolding params_hold
 params_in_range file params e = record {
   below = λ k lt. value_in_range file (get_or params k 0)
-      (each_passes (is_value_type file) params k ((all_first (list_all (is_value_type file) params) (nat_le (sum_by (λ t. words_of_type (type_units file t)) params) 255) e).0) lt);
+      (each_passes (is_value_type file) params k ((both (list_all (is_value_type file) params) (nat_le (sum_by (λ t. words_of_type (type_units file t)) params) 255) e).0) lt);
 }
 
 -- each parameter has a word, so more than 255 of them have too many
@@ -102,12 +99,12 @@ params_end file params words e sum =
 -- a prototype that fits has a list of parameters
 pub fits_list : (file : List ℕ) (e : ProtoEntry) → proto_fits file e ≡ true → list_fits file e.params ≡ true
 fits_list file e h =
-    let more = (all_first (nat_lt e.short (count_at file string_ids)) (nat_lt e.ret (count_at file type_ids) && (list_fits file e.params && (params_hold file (list_at file e.params) && short_agrees file e))) h).1 in
-    let list = (all_first (nat_lt e.ret (count_at file type_ids)) (list_fits file e.params && (params_hold file (list_at file e.params) && short_agrees file e)) more).1 in
-    (all_first (list_fits file e.params) (params_hold file (list_at file e.params) && short_agrees file e) list).0
+    let more = (both (nat_lt e.short (count_at file string_ids)) (nat_lt e.ret (count_at file type_ids) && (list_fits file e.params && (params_hold file (list_at file e.params) && short_agrees file e))) h).1 in
+    let list = (both (nat_lt e.ret (count_at file type_ids)) (list_fits file e.params && (params_hold file (list_at file e.params) && short_agrees file e)) more).1 in
+    (both (list_fits file e.params) (params_hold file (list_at file e.params) && short_agrees file e) list).0
 
 pub holds_list : (file : List ℕ) (k : ℕ) → proto_holds file k ≡ true → list_fits file (proto_entry file k).params ≡ true
-holds_list file k h = fits_list file (proto_entry file k) ((all_first (proto_fits file (proto_entry file k)) (proto_rises file k) h).0)
+holds_list file k h = fits_list file (proto_entry file k) ((both (proto_fits file (proto_entry file k)) (proto_rises file k) h).0)
 
 -- what holds of all numbers below one holds of those below the next
 pub one_more : (holds : ℕ → Bool) (i : ℕ) → ((k : ℕ) → k < i → holds k ≡ true) → holds i ≡ true → (k : ℕ) → k < i + 1 → holds k ≡ true

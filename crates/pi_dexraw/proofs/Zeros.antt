@@ -6,13 +6,13 @@ use Rattle.std.proofs.Math.ListN.{drop_of_length-le}
 use Rattle.std.proofs.lemmas.List.{drop_more}
 use Rattle.std.proofs.lemmas.Bool.Decides.{nat_tests}
 use Rattle.pi_bytes.specs.Mutf8.{spelling, spelled, units_at}
-use Rattle.pi_format.specs.Bytes.{word_at}
+use Rattle.pi_bytes.specs.Numbers.{word_at}
 use Rattle.pi_format.specs.Tables.{count_at, string_ids}
 use Rattle.pi_format.specs.Rules.Entries.{entry_at}
 use Rattle.pi_format.specs.Rules.Strings.{with_units, read_text, string_text, string_bytes, bytes_in, broken_strings}
-use Rattle.pi_dexraw.specs.Texts.{head_at}
-use Rattle.pi_dexraw.proofs.Heads.{text_behind, nothing}
-use Rattle.pi_dexraw.proofs.Known.{entry_holds}
+use Rattle.pi_dexids.specs.Texts.{head_at}
+use Rattle.pi_dexids.proofs.Heads.{text_behind, nothing}
+use Rattle.pi_format.proofs.Held.{entry_holds}
 use Rattle.pi_bytes.proofs.Laws.{units_spelled, units_before}
 
 no_zero_in_one : (u : ℕ) (rest : List ℕ) → position_or_len (λ b. b == 0) (spelling u ++ rest) ≡ length (spelling u) + position_or_len (λ b. b == 0) rest

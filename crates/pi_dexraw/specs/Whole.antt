@@ -1,22 +1,27 @@
--- A file whose header and tables were tested.
-use Rattle.std.specs.Prelude.{◌≡◌, ◌≤◌, ℕ, List, length, true, None}
+-- A file that was tested, and what is known of its strings.
+use Rattle.std.specs.Prelude.{◌≡◌, ◌≤◌, ℕ, List, length, codes, None}
+use Rattle.pi_model.specs.Texts.{same_text}
+use Rattle.pi_format.specs.Tables.{count_at, string_ids}
 use Rattle.pi_format.specs.Rules.{broken_tables_rule}
-use Rattle.pi_format.specs.Tables.{table_holds, count_at, string_ids, type_ids, proto_ids, field_ids, method_ids, class_defs}
+use Rattle.pi_format.specs.Rules.Strings.{string_bytes}
+use Rattle.pi_dexids.specs.Facts.{AreFacts}
+use Rattle.pi_dexraw.specs.declared.known.Known.{Known}
 
--- the header is there, and each table of ids is in the file
-pub record HasTables (file : List ℕ) : Type 0 where
-  pub header : 112 ≤ length file
-  pub small : length file ≤ 16777216
-  pub strings : table_holds file string_ids 4 ≡ true
-  pub types : table_holds file type_ids 4 ≡ true
-  pub protos : table_holds file proto_ids 12 ≡ true
-  pub fields : table_holds file field_ids 8 ≡ true
-  pub methods : table_holds file method_ids 8 ≡ true
-  pub classes : table_holds file class_defs 32 ≡ true
-  pub few_types : count_at file type_ids ≤ 65535
-  pub few_protos : count_at file proto_ids ≤ 65535
+-- which of the texts that rules ask for this is
+abbrev pub known_text : List ℕ → Known
+known_text text = record {
+  is_constructor = same_text (codes "<init>") text;
+  is_initialiser = same_text (codes "<clinit>") text;
+  is_string_type = same_text (codes "Ljava/lang/String;") text;
+  is_class_type = same_text (codes "Ljava/lang/Class;") text;
+}
 
--- no rule from X1 to X17 is broken, and an offset is a number of 32 bits
-pub record IsRaw (file : List ℕ) : Type 0 where
+-- of a string
+unfoldable pub known_of : List ℕ → ℕ → Known
+known_of file i = known_text (string_bytes file i)
+
+-- no rule from X1 to X17 is broken, an offset is a number of 32 bits, and each string is known
+pub record IsRaw (file : List ℕ) (known : List Known) : Type 0 where
   pub small : length file ≤ 16777216
   pub kept : broken_tables_rule file ≡ None
+  pub known_texts : AreFacts (known_of file) (count_at file string_ids) known

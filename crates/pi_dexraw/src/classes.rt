@@ -4,36 +4,18 @@ ghost use Rattle.std.specs.Prelude.{◌≡◌, ◌≢◌, ◌+◌, ◌<◌, ◌�
 ghost use Rattle.pi_format.specs.Tables.{count_at, class_defs, type_ids};
 ghost use Rattle.pi_format.specs.Rules.Entries.{list_fits, list_at};
 ghost use Rattle.pi_format.specs.Rules.Classes.{class_entry, is_class_id, stands_earlier, parent_holds, faces_hold, class_holds, broken_classes};
-ghost use Rattle.pi_dexraw.specs.Whole.{HasTables};
-ghost use Rattle.pi_dexraw.specs.Facts.{AreInRange, AreFaces, AreJudged, AreKnown, none_before};
+ghost use Rattle.pi_dexids.specs.Tables.{HasTables};
+ghost use Rattle.pi_dexraw.specs.Interfaces.{AreInRange, AreFaces, AreJudged, AreKnown, none_before};
 
-use crate::bytes::word;
 use crate::distinct::are_distinct;
-use crate::entries::{count, entry};
-use crate::facts::{note, numbers};
-use crate::header::CLASS_DEFS;
 use crate::type_lists::{fits, list};
-use crate::types::{Types, class_of};
+use pi_dexids::entries::{CLASS_DEFS, class_def_at, count, entry};
+use pi_dexids::facts::{note, numbers};
+use pi_dexids::types::Types;
 use std::alloc::{AllocError, Global};
 
-/// The superclass of a definition.
-fn parent_of(file: &[u8], i: usize) -> usize
-    requires tables { HasTables file.now }
-    requires counted { i < count_at file.now class_defs }
-    ensures { result ≡ (class_entry file.now i).parent }
-{
-    word(file, entry(file, CLASS_DEFS, 32, i) + 8) as usize
-}
-
-/// The offset of its interfaces.
-fn faces_of(file: &[u8], i: usize) -> usize
-    requires tables { HasTables file.now }
-    requires counted { i < count_at file.now class_defs }
-    ensures value { result ≡ (class_entry file.now i).faces }
-    ensures small { result < 4294967296 }
-{
-    word(file, entry(file, CLASS_DEFS, 32, i) + 12) as usize
-}
+/// What stands for the superclass where there is none.
+const NO_INDEX: usize = 0xffff_ffff;
 
 /// Whether a type that the file defines is defined before a definition.
 #[tactic(auto, unfolding(pi_format::specs::Rules::Classes::stands_earlier))]
@@ -53,9 +35,10 @@ fn holds_parent(alloc: Global, types: &Types<'_>, i: usize) -> Result<bool, Allo
     requires range { (class_entry types.now i).class < count_at types.now type_ids }
     ensures { IfOk result (λ r. r ≡ parent_holds types.now i (class_entry types.now i)) }
 {
-    let is_object = types.is_object(alloc, class_of(types.file(), i))?;
-    let parent = parent_of(types.file(), i);
-    if parent == 0xffff_ffff {
+    let class = class_def_at(types.file(), i);
+    let is_object = types.is_object(alloc, class.class as usize)?;
+    let parent = class.parent as usize;
+    if parent == NO_INDEX {
         return Ok(is_object);
     }
     Ok(!is_object && parent < types.count() && is_earlier(types, i, parent))
@@ -218,7 +201,7 @@ fn hold_faces(
     ensures known { AreKnown types.now known.new.items }
 {
     let file = types.file();
-    let at = faces_of(file, i);
+    let at = class_def_at(file, i).faces as usize;
     if !fits(file, at) {
         return Ok(false);
     }
@@ -245,7 +228,7 @@ fn holds(
     ensures kept { AreInRange (mark + 1) marks.new.items }
     ensures known { AreKnown types.now known.new.items }
 {
-    let class = class_of(types.file(), i);
+    let class = class_def_at(types.file(), i).class as usize;
     if class >= types.count() || !types.is_class(class) {
         return Ok(false);
     }

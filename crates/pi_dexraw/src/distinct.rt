@@ -2,9 +2,9 @@
 
 ghost use Rattle.std.specs.Prelude.{◌≡◌, ◌+◌, nat_eq, length};
 ghost use Rattle.pi_model.specs.Distinct.{all_distinct};
-ghost use Rattle.pi_dexraw.specs.Facts.{AreInRange};
+ghost use Rattle.pi_dexraw.specs.Interfaces.{AreInRange};
 
-use crate::facts::note;
+use pi_dexids::facts::note;
 
 /// Whether the numbers of a list are distinct. Marks below the given one are those of other lists.
 pub(crate) fn are_distinct(marks: &mut Vec<u32>, mark: u32, list: &[u16]) -> bool

@@ -2,25 +2,15 @@
 // broken, None where it holds.
 
 ghost use Rattle.std.specs.Prelude.{◌≡◌, ◌+◌, ◌<◌, ◌≤◌, ◌&&◌, nat_le, length, true, IsTrue};
-ghost use Rattle.pi_format.specs.Bytes.{word_at};
+ghost use Rattle.pi_bytes.specs.Numbers.{word_at};
 ghost use Rattle.pi_format.specs.Tables.{table_holds};
-ghost use Rattle.pi_format.specs.Rules.Header.{unless, adler, counted_table, broken_length, broken_magic, broken_order, broken_header_size, broken_file_size, broken_checksum, broken_signature, broken_tables, broken_data};
+ghost use Rattle.pi_format.specs.Rules.Header.{unless, counted_table, broken_length, broken_magic, broken_order, broken_header_size, broken_file_size, broken_checksum, broken_signature, broken_tables, broken_data};
+ghost use Rattle.pi_bytes.specs.Sums.{adler};
 
-use crate::bytes::word;
+use pi_bytes::numbers::word;
+use pi_bytes::sums::adler32;
+use pi_dexids::entries::{CLASS_DEFS, FIELD_IDS, METHOD_IDS, PROTO_IDS, STRING_IDS, TYPE_IDS};
 use sha1::Sha1;
-
-// The places of the header's fields: a table's size stands there, its offset four bytes later.
-pub(crate) const STRING_IDS: usize = 56;
-
-pub(crate) const TYPE_IDS: usize = 64;
-
-pub(crate) const PROTO_IDS: usize = 72;
-
-pub(crate) const FIELD_IDS: usize = 80;
-
-pub(crate) const METHOD_IDS: usize = 88;
-
-pub(crate) const CLASS_DEFS: usize = 96;
 
 /// A place, unless what is asked holds.
 pub(crate) fn unless(holds: bool, at: u32) -> Option<u32>
@@ -66,20 +56,6 @@ pub(crate) fn file_size_rule(file: &[u8]) -> Option<u32>
     ensures { result ≡ broken_file_size file.now }
 {
     unless(word(file, 32) as usize == file.len(), 32)
-}
-
-/// The checksum of bytes: two sums modulo the largest prime below 2^16.
-#[tactic(auto, unfolding(pi_format::specs::Rules::Header::adler))]
-pub(crate) fn adler32(bytes: &[u8]) -> u32
-    ensures { result ≡ adler bytes.now }
-{
-    let mut a: u32 = 1;
-    let mut b: u32 = 0;
-    for byte in bytes {
-        a = (a + *byte as u32) % 65521;
-        b = (b + a) % 65521;
-    }
-    b * 65536 + a
 }
 
 /// X6: the checksum is that of the bytes behind it.

@@ -1,26 +1,20 @@
-// Tests the tables of a file by the rules X1 to X17 of docs/dex-format.md, and lends its strings and entries by number.
+// Tests the tables of a file by the rules X1 to X17 of docs/dex-format.md, lends its strings and entries by number, and says
+// what its entries say.
 #![tactic(auto)]
 
-mod bytes;
+mod asking;
 mod classes;
 mod distinct;
-mod entries;
-mod facts;
 mod fault;
 mod header;
+mod known;
 mod map;
 mod members;
 mod protos;
-mod ranks;
 mod raw;
-mod sorted;
-mod strings;
-mod tail;
-mod tails;
-mod texts;
 mod type_lists;
-mod types;
-mod unit;
+mod view;
 
 pub use fault::DexFault;
+pub use pi_dexids::entries::{ClassDef, Member, Proto};
 pub use raw::Raw;

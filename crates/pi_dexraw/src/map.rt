@@ -3,11 +3,12 @@
 ghost use Rattle.std.specs.Prelude.{◌≡◌, ◌+◌, ◌*◌, ◌<◌, ◌≤◌, ◌&&◌, ◌==◌, length, IfOk, Bool};
 ghost use Rattle.pi_format.specs.Rules.Entries.{some_from};
 ghost use Rattle.pi_format.specs.Rules.Map.{map_at, item_count, item_type, item_size, item_offset, map_lies, item_rises, item_is_new, has_item, lacks_item, table_mapped, width_of_item, item_ends, items_hold, names_ids, names_members, names_tables, map_holds, broken_map};
-ghost use Rattle.pi_dexraw.specs.Facts.{AreFacts};
+ghost use Rattle.pi_dexids.specs.Facts.{AreFacts};
 
-use crate::bytes::{half, is_in_file, word};
-use crate::facts::{fact, flags};
-use crate::header::{CLASS_DEFS, FIELD_IDS, METHOD_IDS, PROTO_IDS, STRING_IDS, TYPE_IDS, unless};
+use crate::header::unless;
+use pi_bytes::numbers::{half, is_in_file, word};
+use pi_dexids::entries::{CLASS_DEFS, FIELD_IDS, METHOD_IDS, PROTO_IDS, STRING_IDS, TYPE_IDS};
+use pi_dexids::facts::{fact, flags};
 use std::alloc::{AllocError, Global};
 
 /// Where the map begins.
@@ -236,7 +237,7 @@ fn names_tables(file: &[u8]) -> bool
 }
 
 /// Whether the map is in the file and its items hold.
-#[tactic(auto, using(crate::proofs::Lists::map_ends), unfolding(pi_format::specs::Rules::Map::map_holds))]
+#[tactic(auto, using(crate::proofs::Items::map_ends), unfolding(pi_format::specs::Rules::Map::map_holds))]
 fn holds_map(alloc: Global, file: &[u8]) -> Result<bool, AllocError>
     requires { 112 ≤ length file.now }
     ensures { IfOk result (λ r. r ≡ map_holds file.now) }

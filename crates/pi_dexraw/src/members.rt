@@ -7,16 +7,14 @@ ghost use Rattle.pi_format.specs.Tables.{table_holds, count_at, field_ids, metho
 ghost use Rattle.pi_format.specs.Rules.Descriptors.{is_member_name, is_method_name};
 ghost use Rattle.pi_format.specs.Rules.Strings.{string_units};
 ghost use Rattle.pi_format.specs.Rules.Members.{member_entry, member_rises, field_fits, field_holds, broken_fields, method_fits, method_holds, broken_methods};
-ghost use Rattle.pi_dexraw.specs.Whole.{HasTables};
-ghost use Rattle.pi_dexraw.specs.Tails.{AreTails};
+ghost use Rattle.pi_dexids.specs.Tables.{HasTables};
+ghost use Rattle.pi_dexids.specs.Tails.{AreTails};
 
-use crate::bytes::{half, word};
-use crate::entries::{count, entry};
-use crate::header::{FIELD_IDS, METHOD_IDS, PROTO_IDS, STRING_IDS};
-use crate::tail::{Tail, is_member_name};
-use crate::tails::string;
-use crate::type_lists::spells;
-use crate::types::Types;
+use pi_dexids::entries::{FIELD_IDS, METHOD_IDS, PROTO_IDS, STRING_IDS, count, entry, member_at};
+use pi_dexids::tail::{Tail, is_member_name};
+use pi_dexids::tails::string;
+use pi_dexids::texts::spells;
+use pi_dexids::types::Types;
 use std::alloc::{AllocError, Global};
 
 /// `<init>`.
@@ -24,36 +22,6 @@ const INIT: [u16; 6] = [60, 105, 110, 105, 116, 62];
 
 /// `<clinit>`.
 const CLINIT: [u16; 8] = [60, 99, 108, 105, 110, 105, 116, 62];
-
-/// The class of a member.
-fn class_of(file: &[u8], table: usize, i: usize) -> usize
-    requires in_header { table + 8 ≤ length file.now }
-    requires holds { table_holds file.now table 8 ≡ true }
-    requires counted { i < count_at file.now table }
-    ensures { result ≡ (member_entry file.now table i).class }
-{
-    half(file, entry(file, table, 8, i)) as usize
-}
-
-/// Its type or prototype.
-fn kind_of(file: &[u8], table: usize, i: usize) -> usize
-    requires in_header { table + 8 ≤ length file.now }
-    requires holds { table_holds file.now table 8 ≡ true }
-    requires counted { i < count_at file.now table }
-    ensures { result ≡ (member_entry file.now table i).kind }
-{
-    half(file, entry(file, table, 8, i) + 2) as usize
-}
-
-/// The string of its name.
-fn name_of(file: &[u8], table: usize, i: usize) -> usize
-    requires in_header { table + 8 ≤ length file.now }
-    requires holds { table_holds file.now table 8 ≡ true }
-    requires counted { i < count_at file.now table }
-    ensures { result ≡ (member_entry file.now table i).name }
-{
-    word(file, entry(file, table, 8, i) + 4) as usize
-}
 
 /// Whether a member is behind the one before it: by class, then by name, then by type or prototype.
 fn rises(file: &[u8], table: usize, i: usize) -> bool
@@ -65,10 +33,10 @@ fn rises(file: &[u8], table: usize, i: usize) -> bool
     if i == 0 {
         return true;
     }
-    let by_class = class_of(file, table, i - 1).cmp(&class_of(file, table, i));
-    let by_name = name_of(file, table, i - 1).cmp(&name_of(file, table, i));
-    let by_kind = kind_of(file, table, i - 1).cmp(&kind_of(file, table, i));
-    by_class.then(by_name.then(by_kind)).is_lt()
+    let (before, next) = (member_at(file, table, i - 1), member_at(file, table, i));
+    let by_name = before.name.cmp(&next.name);
+    let by_kind = before.kind.cmp(&next.kind);
+    before.class.cmp(&next.class).then(by_name.then(by_kind)).is_lt()
 }
 
 /// Whether a string is the name of a member.
@@ -131,14 +99,15 @@ fn fits_field(types: &Types<'_>, tails: &[Option<Tail>], i: usize) -> bool
     ensures { result ≡ field_fits types.now (member_entry types.now field_ids i) }
 {
     let file = types.file();
-    let class = class_of(file, FIELD_IDS, i);
+    let field = member_at(file, FIELD_IDS, i);
+    let class = field.class as usize;
     if class >= types.count() || !types.is_class(class) {
         return false;
     }
-    if !types.is_value(kind_of(file, FIELD_IDS, i)) {
+    if !types.is_value(field.kind as usize) {
         return false;
     }
-    let name = name_of(file, FIELD_IDS, i);
+    let name = field.name as usize;
     name < count(file, STRING_IDS) && names_member(file, tails, name)
 }
 
@@ -177,12 +146,13 @@ fn fits_method(
     ensures { IfOk result (λ r. r ≡ method_fits types.now (member_entry types.now method_ids i)) }
 {
     let file = types.file();
-    let class = class_of(file, METHOD_IDS, i);
+    let method = member_at(file, METHOD_IDS, i);
+    let class = method.class as usize;
     if class >= types.count() || !types.is_reference(class) {
         return Ok(false);
     }
-    let name = name_of(file, METHOD_IDS, i);
-    if kind_of(file, METHOD_IDS, i) >= count(file, PROTO_IDS) || name >= count(file, STRING_IDS) {
+    let name = method.name as usize;
+    if method.kind as usize >= count(file, PROTO_IDS) || name >= count(file, STRING_IDS) {
         return Ok(false);
     }
     names_method(alloc, file, tails, name)

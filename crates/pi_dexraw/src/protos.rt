@@ -6,43 +6,14 @@ ghost use Rattle.pi_format.specs.Rules.Entries.{list_fits, list_at};
 ghost use Rattle.pi_format.specs.Rules.Descriptors.{short_letter};
 ghost use Rattle.pi_format.specs.Rules.Strings.{type_units};
 ghost use Rattle.pi_format.specs.Rules.Members.{proto_entry, params_hold, short_agrees, proto_fits, proto_rises, proto_holds, broken_protos};
-ghost use Rattle.pi_dexraw.specs.Whole.{HasTables};
-ghost use Rattle.pi_dexraw.specs.Facts.{AreInRange};
+ghost use Rattle.pi_dexids.specs.Tables.{HasTables};
+ghost use Rattle.pi_dexraw.specs.Interfaces.{AreInRange};
 
-use crate::bytes::word;
-use crate::entries::{count, entry};
-use crate::header::{PROTO_IDS, STRING_IDS};
-use crate::type_lists::{fits, list, size, spells};
-use crate::types::Types;
+use crate::type_lists::{fits, list, size};
+use pi_dexids::entries::{PROTO_IDS, STRING_IDS, count, entry, proto_at};
+use pi_dexids::texts::spells;
+use pi_dexids::types::Types;
 use std::alloc::{AllocError, Global};
-
-/// The string of a prototype's short form.
-fn short_of(file: &[u8], i: usize) -> usize
-    requires tables { HasTables file.now }
-    requires counted { i < count_at file.now proto_ids }
-    ensures { result ≡ (proto_entry file.now i).short }
-{
-    word(file, entry(file, PROTO_IDS, 12, i)) as usize
-}
-
-/// The type of its result.
-fn ret_of(file: &[u8], i: usize) -> usize
-    requires tables { HasTables file.now }
-    requires counted { i < count_at file.now proto_ids }
-    ensures { result ≡ (proto_entry file.now i).ret }
-{
-    word(file, entry(file, PROTO_IDS, 12, i) + 4) as usize
-}
-
-/// The offset of its parameters.
-fn params_of(file: &[u8], i: usize) -> usize
-    requires tables { HasTables file.now }
-    requires counted { i < count_at file.now proto_ids }
-    ensures value { result ≡ (proto_entry file.now i).params }
-    ensures small { result < 4294967296 }
-{
-    word(file, entry(file, PROTO_IDS, 12, i) + 8) as usize
-}
 
 /// Whether parameters are types of values, with at most 255 argument words.
 fn hold_params(types: &Types<'_>, params: &[u16]) -> bool
@@ -95,8 +66,9 @@ fn spells_all(
     ensures { IfOk result (λ r. r ≡ short_agrees types.now (proto_entry types.now i)) }
 {
     let file = types.file();
-    let wanted = letters(alloc, types, ret_of(file, i), params)?;
-    spells(alloc, file, short_of(file, i), wanted.as_slice())
+    let proto = proto_at(file, i);
+    let wanted = letters(alloc, types, proto.ret as usize, params)?;
+    spells(alloc, file, proto.short as usize, wanted.as_slice())
 }
 
 /// Whether the parameters of a prototype hold and its short form spells them.
@@ -109,7 +81,7 @@ fn agrees(alloc: Global, types: &Types<'_>, i: usize) -> Result<bool, AllocError
     ensures { IfOk result (λ r. r ≡ (params_hold types.now (list_at types.now (proto_entry types.now i).params) && short_agrees types.now (proto_entry types.now i))) }
 {
     let file = types.file();
-    let at = params_of(file, i);
+    let at = proto_at(file, i).params as usize;
     if size(file, at) > 255 {
         return Ok(false);
     }
@@ -126,13 +98,11 @@ fn fits_proto(alloc: Global, types: &Types<'_>, i: usize) -> Result<bool, AllocE
     ensures { IfOk result (λ r. r ≡ proto_fits types.now (proto_entry types.now i)) }
 {
     let file = types.file();
-    if short_of(file, i) >= count(file, STRING_IDS) {
+    let proto = proto_at(file, i);
+    if proto.short as usize >= count(file, STRING_IDS) || proto.ret as usize >= types.count() {
         return Ok(false);
     }
-    if ret_of(file, i) >= types.count() {
-        return Ok(false);
-    }
-    if !fits(file, params_of(file, i)) {
+    if !fits(file, proto.params as usize) {
         return Ok(false);
     }
     agrees(alloc, types, i)
@@ -150,10 +120,11 @@ fn rises(alloc: Global, file: &[u8], i: usize) -> Result<bool, AllocError>
     if i == 0 {
         return Ok(true);
     }
-    let before = list(alloc, file, params_of(file, i - 1))?;
-    let next = list(alloc, file, params_of(file, i))?;
-    let by_ret = ret_of(file, i - 1).cmp(&ret_of(file, i));
-    Ok(by_ret.then(before.as_slice().cmp(next.as_slice())).is_lt())
+    let (before, next) = (proto_at(file, i - 1), proto_at(file, i));
+    let params_before = list(alloc, file, before.params as usize)?;
+    let params = list(alloc, file, next.params as usize)?;
+    let by_params = params_before.as_slice().cmp(params.as_slice());
+    Ok(before.ret.cmp(&next.ret).then(by_params).is_lt())
 }
 
 /// Whether a prototype fits and is behind the one before it.

@@ -1,40 +1,36 @@
-// A file of which the rules X1 to X17 hold, and its strings and entries by number. docs/dex-format.md states the rules.
+// A file of which the rules X1 to X17 hold: its strings by number, and the bytes of its entries. docs/dex-format.md states
+// the rules.
 
-ghost use Rattle.std.specs.Prelude.{◌≡◌, ◌+◌, ◌<◌, ◌≤◌, ◌==◌, true, None, length, take, drop, IfOk, OnOk};
-ghost use Rattle.std.specs.List.{position_or_len};
+ghost use Rattle.std.specs.Prelude.{◌≡◌, ◌+◌, ◌<◌, ◌≤◌, true, None, length, take, drop, IfOk};
 ghost use Rattle.pi_format.specs.Tables.{table_holds, count_at, string_ids, type_ids, proto_ids, field_ids, method_ids, class_defs};
-ghost use Rattle.pi_format.specs.Rules.{asked, broken_tables_rule};
+ghost use Rattle.pi_format.specs.Rules.{broken_tables_rule};
 ghost use Rattle.pi_format.specs.Rules.Entries.{entry_at};
-ghost use Rattle.pi_format.specs.Rules.Strings.{broken_types, broken_strings, string_bytes, string_units};
-ghost use Rattle.pi_dexraw.specs.Asked.{Asks, Tells, header_rules, sum_rules, string_rules, id_rules, class_rules};
-ghost use Rattle.pi_dexraw.specs.Tails.{AreTails};
-ghost use Rattle.pi_dexraw.specs.Whole.{HasTables};
+ghost use Rattle.pi_format.specs.Rules.Strings.{string_bytes, string_units};
+ghost use Rattle.pi_dexids.specs.Facts.{letter_of};
+ghost use Rattle.pi_dexids.specs.Tables.{HasTables};
+ghost use Rattle.pi_dexraw.specs.Asked.{Tells};
+ghost use Rattle.pi_dexraw.specs.Whole.{known_of};
 
-use crate::bytes::word;
-use crate::classes::classes_rule;
-use crate::entries::{count, entry};
+use crate::asking::ask_all;
 use crate::fault::DexFault;
-use crate::header::{
-    CLASS_DEFS, FIELD_IDS, METHOD_IDS, PROTO_IDS, STRING_IDS, TYPE_IDS, checksum_rule, data_rule,
-    file_size_rule, header_size_rule, length_rule, magic_rule, order_rule, signature_rule,
-    tables_rule,
+use crate::known::{Known, known_texts, text_bytes};
+use pi_bytes::numbers::word;
+use pi_dexids::entries::{
+    CLASS_DEFS, FIELD_IDS, METHOD_IDS, PROTO_IDS, STRING_IDS, TYPE_IDS, entry,
 };
-use crate::map::map_rule;
-use crate::members::{fields_rule, methods_rule};
-use crate::protos::protos_rule;
-use crate::strings::{string_order_rule, strings_rule, types_rule};
-use crate::tail::Tail;
-use crate::tails::tails;
-use crate::texts::{head, text_place, units};
-use crate::types::Types;
+use pi_dexids::facts::fact;
+use pi_dexids::texts::units;
+use pi_dexids::types::Types;
 use pi_model::listed::Units;
 use std::alloc::{AllocError, Global};
 use std::marker::Model;
 
-/// The bytes of a file of which the rules X1 to X17 hold.
+/// A file of which the rules X1 to X17 hold. Each number that is asked for is below the size of its table. All that it
+/// answers is read from the file, but for the first unit of each type and four facts of each string.
 #[derive(Drop)]
 pub struct Raw<'a> {
-    bytes: &'a [u8],
+    types: Types<'a>,
+    known: Vec<Known>,
 }
 
 impl<'a> Model for Raw<'a> {
@@ -43,97 +39,9 @@ impl<'a> Model for Raw<'a> {
 
     ghost Value = { List ℕ };
 
-    ghost view = { λ r. r.bytes.now };
+    ghost view = { λ r. r.types };
 
-    ghost invariant = { λ r. IsRaw r.bytes.now };
-}
-
-/// Tells a rule that is broken.
-fn ask(rule: u8, broken: Option<u32>) -> Result<(), DexFault>
-    ensures asks { Asks (asked rule broken) result }
-    ensures holds { OnOk result (broken ≡ None) }
-{
-    match broken {
-        None => Ok(()),
-        Some(at) => Err(DexFault::Rule { rule, at }),
-    }
-}
-
-/// Rules X1 to X5.
-#[tactic(auto, using(crate::proofs::Chain::is_long), unfolding(crate::specs::Asked::header_rules))]
-fn ask_header(file: &[u8]) -> Result<(), DexFault>
-    requires { length file.now ≤ 16777216 }
-    ensures asks { Asks (header_rules file.now) result }
-    ensures long { OnOk result (112 ≤ length file.now) }
-{
-    ask(1, length_rule(file))?;
-    ask(2, magic_rule(file))?;
-    ask(3, order_rule(file))?;
-    ask(4, header_size_rule(file))?;
-    ask(5, file_size_rule(file))
-}
-
-/// Rules X6 to X9.
-#[tactic(auto, using(crate::proofs::Chain::have_tables), unfolding(crate::specs::Asked::sum_rules))]
-fn ask_sums(file: &[u8]) -> Result<(), DexFault>
-    requires small { length file.now ≤ 16777216 }
-    requires long { 112 ≤ length file.now }
-    ensures asks { Asks (sum_rules file.now) result }
-    ensures tables { OnOk result (HasTables file.now) }
-{
-    ask(6, checksum_rule(file))?;
-    ask(7, signature_rule(file))?;
-    ask(8, tables_rule(file))?;
-    ask(9, data_rule(file))
-}
-
-/// Rules X10 to X13.
-#[tactic(auto, unfolding(crate::specs::Asked::string_rules))]
-fn ask_strings(alloc: Global, file: &[u8], tails: &[Option<Tail>]) -> Result<(), DexFault>
-    requires tables { HasTables file.now }
-    requires tails { AreTails file.now 0 tails.now }
-    ensures asks { Asks (string_rules file.now) result }
-    ensures types { OnOk result (broken_types file.now ≡ None) }
-{
-    ask(10, map_rule(alloc, file)?)?;
-    ask(11, strings_rule(file, tails))?;
-    ask(12, string_order_rule(alloc, file, tails)?)?;
-    ask(13, types_rule(file, tails))
-}
-
-/// Rules X14 and X15.
-#[tactic(auto, unfolding(crate::specs::Asked::id_rules))]
-fn ask_ids(alloc: Global, types: &Types<'_>, tails: &[Option<Tail>]) -> Result<(), DexFault>
-    requires { AreTails types.now 0 tails.now }
-    ensures { Asks (id_rules types.now) result }
-{
-    ask(14, protos_rule(alloc, types)?)?;
-    ask(15, fields_rule(types, tails))
-}
-
-/// Rules X16 and X17.
-#[tactic(auto, unfolding(crate::specs::Asked::class_rules))]
-fn ask_classes(alloc: Global, types: &Types<'_>, tails: &[Option<Tail>]) -> Result<(), DexFault>
-    requires { AreTails types.now 0 tails.now }
-    ensures { Asks (class_rules types.now) result }
-{
-    ask(16, methods_rule(alloc, types, tails)?)?;
-    ask(17, classes_rule(alloc, types)?)
-}
-
-/// All rules on a file whose length fits.
-#[tactic(auto, using(crate::proofs::Chain::all_rules))]
-fn ask_all(alloc: Global, file: &[u8]) -> Result<(), DexFault>
-    requires { length file.now ≤ 16777216 }
-    ensures { Tells (broken_tables_rule file.now) result }
-{
-    ask_header(file)?;
-    ask_sums(file)?;
-    let tails = tails(alloc, file)?;
-    ask_strings(alloc, file, tails.as_slice())?;
-    let types = Types::new(alloc, file, tails.as_slice())?;
-    ask_ids(alloc, &types, tails.as_slice())?;
-    ask_classes(alloc, &types, tails.as_slice())
+    ghost invariant = { λ r. IsRaw r.types r.known.items };
 }
 
 /// The bytes of an entry.
@@ -150,61 +58,41 @@ fn lend<'a>(file: &'a [u8], table: usize, width: usize, i: usize) -> &'a [u8]
         .0
 }
 
-/// The bytes before the first 0.
-fn before_zero<'a>(bytes: &'a [u8]) -> &'a [u8]
-    ensures { result.now ≡ take (position_or_len (λ b. b == 0) bytes.now) bytes.now }
-{
-    for i in 0..bytes.len() {
-        if bytes[i] == 0 {
-            return bytes.split_at(i).0;
-        }
-    }
-    bytes
-}
-
-/// The bytes of a string before its 0.
-#[tactic(auto, using(crate::proofs::Zeros::bytes_are, crate::proofs::Zeros::no_bytes))]
-fn text_bytes<'a>(file: &'a [u8], i: usize) -> &'a [u8]
-    requires tables { HasTables file.now }
-    requires counted { i < count_at file.now string_ids }
-    requires texts { broken_strings file.now ≡ None }
-    ensures { result.now ≡ string_bytes file.now i }
-{
-    match head(file, text_place(file, i)) {
-        Some((_, begin)) => before_zero(file.split_at(begin).1),
-        None => file.split_at(0).0,
-    }
-}
-
 impl<'a> Raw<'a> {
     /// Tests the rules X1 to X17 and tells the first one that is broken.
+    #[tactic(auto, using(crate::proofs::Chain::strings_hold))]
     pub fn new(alloc: Global, bytes: &'a [u8]) -> Result<Raw<'a>, DexFault>
         requires { length bytes.now ≤ 16777216 }
         ensures told { Tells (broken_tables_rule bytes.now) result }
         ensures value { IfOk result (λ raw. raw ≡ bytes.now) }
     {
         match ask_all(alloc, bytes) {
-            Ok(()) => Ok(Raw { bytes }),
+            Ok(types) => {
+                let known = known_texts(alloc, types.file())?;
+                Ok(Raw { types, known })
+            }
             Err(fault) => Err(fault),
         }
     }
 
     /// The bytes of the file.
-    pub fn bytes(&self) -> &'a [u8]
+    pub fn file(&self) -> &'a [u8]
         ensures value { result.now ≡ self.now }
         ensures small { length self.now ≤ 16777216 }
+        ensures header { 112 ≤ length self.now }
         ensures kept { broken_tables_rule self.now ≡ None }
         ensures tables { HasTables self.now }
     {
-        self.bytes
+        self.types.file()
     }
 
     /// The bytes of a string before its 0.
+    #[tactic(auto, using(crate::proofs::Chain::strings_hold))]
     pub fn string(&self, i: u32) -> &'a [u8]
         requires { i < count_at self.now string_ids }
         ensures { result.now ≡ string_bytes self.now i }
     {
-        text_bytes(self.bytes(), i as usize)
+        text_bytes(self.file(), i as usize)
     }
 
     /// The units of a string.
@@ -212,49 +100,66 @@ impl<'a> Raw<'a> {
         requires { i < count_at self.now string_ids }
         ensures { IfOk result (λ units. units ≡ string_units self.now i) }
     {
-        units(alloc, self.bytes(), i as usize)
+        units(alloc, self.file(), i as usize)
+    }
+
+    /// Which of the known texts a string is.
+    pub(crate) fn known(&self, s: u32) -> Known
+        requires { s < count_at self.now string_ids }
+        ensures value { result ≡ known_of self.now s }
+        ensures kept { broken_tables_rule self.now ≡ None }
+    {
+        fact(self.known.as_slice(), s as usize)
+    }
+
+    /// The first unit of a type.
+    pub(crate) fn letter(&self, t: u32) -> u16
+        requires { t < count_at self.now type_ids }
+        ensures { result ≡ letter_of self.now t }
+    {
+        self.types.letter(t as usize)
     }
 
     /// How many strings there are.
     pub fn strings(&self) -> u32
         ensures { result ≡ count_at self.now string_ids }
     {
-        word(self.bytes(), STRING_IDS)
-    }
-
-    /// How many prototypes there are.
-    pub fn protos(&self) -> u32
-        ensures { result ≡ count_at self.now proto_ids }
-    {
-        word(self.bytes(), PROTO_IDS)
-    }
-
-    /// How many fields there are.
-    pub fn fields(&self) -> u32
-        ensures { result ≡ count_at self.now field_ids }
-    {
-        word(self.bytes(), FIELD_IDS)
-    }
-
-    /// How many methods there are.
-    pub fn methods(&self) -> u32
-        ensures { result ≡ count_at self.now method_ids }
-    {
-        word(self.bytes(), METHOD_IDS)
-    }
-
-    /// How many class definitions there are.
-    pub fn class_defs(&self) -> u32
-        ensures { result ≡ count_at self.now class_defs }
-    {
-        word(self.bytes(), CLASS_DEFS)
+        word(self.file(), STRING_IDS)
     }
 
     /// How many types there are.
     pub fn types(&self) -> u32
         ensures { result ≡ count_at self.now type_ids }
     {
-        word(self.bytes(), TYPE_IDS)
+        word(self.file(), TYPE_IDS)
+    }
+
+    /// How many prototypes there are.
+    pub fn protos(&self) -> u32
+        ensures { result ≡ count_at self.now proto_ids }
+    {
+        word(self.file(), PROTO_IDS)
+    }
+
+    /// How many fields there are.
+    pub fn fields(&self) -> u32
+        ensures { result ≡ count_at self.now field_ids }
+    {
+        word(self.file(), FIELD_IDS)
+    }
+
+    /// How many methods there are.
+    pub fn methods(&self) -> u32
+        ensures { result ≡ count_at self.now method_ids }
+    {
+        word(self.file(), METHOD_IDS)
+    }
+
+    /// How many class definitions there are.
+    pub fn class_defs(&self) -> u32
+        ensures { result ≡ count_at self.now class_defs }
+    {
+        word(self.file(), CLASS_DEFS)
     }
 
     /// The entry of a type.
@@ -262,7 +167,7 @@ impl<'a> Raw<'a> {
         requires { i < count_at self.now type_ids }
         ensures { result.now ≡ take 4 (drop (entry_at self.now type_ids 4 i) self.now) }
     {
-        lend(self.bytes(), TYPE_IDS, 4, i as usize)
+        lend(self.file(), TYPE_IDS, 4, i as usize)
     }
 
     /// The entry of a prototype.
@@ -270,7 +175,7 @@ impl<'a> Raw<'a> {
         requires { i < count_at self.now proto_ids }
         ensures { result.now ≡ take 12 (drop (entry_at self.now proto_ids 12 i) self.now) }
     {
-        lend(self.bytes(), PROTO_IDS, 12, i as usize)
+        lend(self.file(), PROTO_IDS, 12, i as usize)
     }
 
     /// The entry of a field.
@@ -278,7 +183,7 @@ impl<'a> Raw<'a> {
         requires { i < count_at self.now field_ids }
         ensures { result.now ≡ take 8 (drop (entry_at self.now field_ids 8 i) self.now) }
     {
-        lend(self.bytes(), FIELD_IDS, 8, i as usize)
+        lend(self.file(), FIELD_IDS, 8, i as usize)
     }
 
     /// The entry of a method.
@@ -286,7 +191,7 @@ impl<'a> Raw<'a> {
         requires { i < count_at self.now method_ids }
         ensures { result.now ≡ take 8 (drop (entry_at self.now method_ids 8 i) self.now) }
     {
-        lend(self.bytes(), METHOD_IDS, 8, i as usize)
+        lend(self.file(), METHOD_IDS, 8, i as usize)
     }
 
     /// The entry of a class definition.
@@ -294,6 +199,6 @@ impl<'a> Raw<'a> {
         requires { i < count_at self.now class_defs }
         ensures { result.now ≡ take 32 (drop (entry_at self.now class_defs 32 i) self.now) }
     {
-        lend(self.bytes(), CLASS_DEFS, 32, i as usize)
+        lend(self.file(), CLASS_DEFS, 32, i as usize)
     }
 }

@@ -18,7 +18,7 @@ use Rattle.pi_model.specs.Search.{same_names}
 use Rattle.pi_model.specs.Texts.{same_text}
 use Rattle.pi_model.specs.Valid.{FitsBehind, IsProgram}
 use Rattle.pi_model.proofs.Kept.{kept_at_first, kept_behind}
-use Rattle.pi_format.specs.Bytes.{half_at}
+use Rattle.pi_bytes.specs.Numbers.{half_at}
 use Rattle.pi_format.specs.Core.{core_names, core_types, core_classes, core_program, object_class, out_class, object_name, out_name, int_name, void_name, strings_name, main_name, clinit_name}
 use Rattle.pi_format.specs.Tables.{count_at, class_defs}
 use Rattle.pi_format.specs.Rules.Lowest.{listed}

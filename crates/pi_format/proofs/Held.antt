@@ -1,5 +1,5 @@
 -- What a file keeps of which the rules hold: each entry of its tables fits, and what entries name is there.
-use Rattle.std.proofs.Common.{◌≡◌, ◌≢◌, ℕ, zero, suc, ◌+◌, ◌-◌, ◌<◌, ◌≤◌, List, [], ◌∷◌, ◌++◌, length, take, drop, Option, Some, None, Result, Ok, Err, Bool, true, false, option_map, refl, sym, ap, ◌∙◌, arith, subst, add-zero}
+use Rattle.std.proofs.Common.{◌≡◌, ◌≢◌, ℕ, ◌+◌, ◌-◌, ◌<◌, ◌≤◌, List, [], ◌∷◌, ◌++◌, length, take, drop, Option, Some, None, Result, Ok, Err, Bool, true, false, option_map, refl, sym, ap, ◌∙◌, arith, subst}
 use Rattle.std.specs.Prelude.{◌==◌, ◌&&◌, ◌||◌, not, nat_lt, nat_le, sum_by, is_some, if◌then◌else◌}
 use Rattle.std.specs.List.{list_all}
 use Rattle.std.specs.Prelude.{nat_eq}
@@ -9,7 +9,7 @@ use Rattle.pi_bytes.specs.declared.fault.ReadFault.{ReadFault}
 use Rattle.pi_bytes.specs.Leb.{uleb_by}
 use Rattle.pi_bytes.specs.Mutf8.{spelled, units_at}
 use Rattle.pi_bytes.proofs.Laws.{units_spelled, units_before}
-use Rattle.pi_format.specs.Bytes.{word_at}
+use Rattle.pi_bytes.specs.Numbers.{word_at}
 use Rattle.pi_format.specs.Tables.{count_at, string_ids, type_ids, proto_ids, field_ids, method_ids, class_defs}
 use Rattle.pi_format.specs.Rules.{Broken, asked, or_else, broken_tables_rule, broken_content_rule, broken_rule}
 use Rattle.pi_format.specs.Rules.Entries.{first_bad, entry_at, broken_entry, list_fits, list_at}
@@ -23,6 +23,7 @@ use Rattle.pi_format.specs.Rules.ClassData.{broken_class_data}
 use Rattle.pi_format.specs.Rules.Values.{broken_values}
 use Rattle.pi_format.specs.Rules.CodeItems.{broken_code}
 use Rattle.pi_format.specs.Rules.Pieces.{broken_walk, broken_index, broken_payload}
+use Rattle.pi_format.proofs.Loops.{all_hold}
 
 pub both : (a b : Bool) → (a && b) ≡ true → (a ≡ true) × (b ≡ true)
 both true b e = (refl, e)
@@ -30,18 +31,6 @@ both false b e = cc
 
 pub below : (a b : ℕ) → nat_lt a b ≡ true → a < b
 below a b e = grind (arith, nat_tests)
-
--- the first of numbers that breaks a test, where none does
-none_first : (b : Bool) (i : ℕ) (later : Option ℕ) → (if b then later else Some i) ≡ None → (b ≡ true) × (later ≡ None)
-none_first true i later e = (refl, e)
-none_first false i later e = cc
-
-pub all_hold : (holds : ℕ → Bool) (i n : ℕ) → first_bad holds i n ≡ None → (k : ℕ) → k < n → holds (i + k) ≡ true
-all_hold holds i zero e k lt = absurd (omega arith)
-all_hold holds i (suc n) e zero lt = rw (add-zero i) ((none_first (holds i) i (first_bad holds (i + 1) n) e).0)
-all_hold holds i (suc n) e (suc k) lt =
-    let place : i + 1 + k ≡ i + suc k = omega arith in
-    subst (λ (j : ℕ). holds j ≡ true) place (all_hold holds (i + 1) n ((none_first (holds i) i (first_bad holds (i + 1) n) e).1) k (omega arith))
 
 mapped_none : {A B : Type 0} (f : A → B) (o : Option A) → option_map f o ≡ None → o ≡ None
 mapped_none f None e = refl

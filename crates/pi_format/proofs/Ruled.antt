@@ -3,7 +3,8 @@ use Rattle.std.proofs.Common.{◌≡◌, ℕ, zero, suc, List, [], ◌∷◌, No
 use Rattle.std.specs.Prelude.{codes}
 use Rattle.std.specs.List.{list_all, list_any}
 use Rattle.pi_format.specs.Rules.Entries.{list_fits, list_at}
-use Rattle.pi_format.specs.Rules.Header.{adler, broken_length, broken_magic, broken_order, broken_header_size, broken_file_size, broken_checksum, broken_tables, broken_data}
+use Rattle.pi_format.specs.Rules.Header.{broken_length, broken_magic, broken_order, broken_header_size, broken_file_size, broken_checksum, broken_tables, broken_data}
+use Rattle.pi_bytes.specs.Sums.{adler}
 use Rattle.pi_format.specs.Tables.{table_holds}
 use Rattle.pi_format.specs.Rules.Map.{has_item, lacks_item, table_mapped, names_ids, names_members, map_holds, broken_map}
 use Rattle.pi_format.specs.Rules.Descriptors.{is_class_name, is_array_of, is_descriptor, is_member_name, is_method_name, short_letter, words_of_type}

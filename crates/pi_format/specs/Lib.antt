@@ -1,5 +1,4 @@
 -- What the bytes of a file say.
-pub mod Bytes
 pub mod Tables
 pub mod Core
 pub mod Rules

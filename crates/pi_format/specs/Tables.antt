@@ -1,6 +1,6 @@
 -- The header of a file, and the tables that it names.
 use Rattle.std.specs.Prelude.{ℕ, ◌+◌, ◌*◌, ◌%◌, ◌==◌, ◌||◌, ◌&&◌, nat_le, List, [], ◌∷◌, length, Bool}
-use Rattle.pi_format.specs.Bytes.{word_at}
+use Rattle.pi_bytes.specs.Numbers.{word_at}
 
 -- a file begins with `dex`, a newline, the version 035 and a 0
 abbrev pub magic : List ℕ

@@ -5,7 +5,7 @@ ghost use Rattle.pi_format.specs.Rules.Pieces.{index_holds, first_insn, code_wal
 
 use pi_codeitem::{broken_index, handlers, lies, units, walk};
 use pi_dexcode::code;
-use pi_dexnames::Named;
+use pi_dexcode::Named;
 use pi_dexraw::Raw;
 use pi_dexview::View;
 use pi_model::numbers::NameNo;

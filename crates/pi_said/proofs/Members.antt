@@ -11,7 +11,7 @@ use Rattle.pi_model.specs.declared.describe.Init.TheVariants.{Zero}
 use Rattle.pi_model.specs.Distinct.{all_distinct}
 use Rattle.pi_model.specs.Program.{field_count, method_count}
 use Rattle.pi_model.proofs.Kept.{all_more}
-use Rattle.pi_format.specs.Bytes.{◌>>=◌}
+use Rattle.pi_insn.specs.Chain.{◌>>=◌}
 use Rattle.pi_format.specs.Tables.{count_at, field_ids, method_ids, class_defs}
 use Rattle.pi_format.specs.declared.lists.MemberList.{MemberList}
 use Rattle.pi_format.specs.declared.lists.MemberList.TheVariants.{StaticFields, InstanceFields, DirectMethods, VirtualMethods}

@@ -4,7 +4,7 @@
 
 use pi_base::file_store::FileStore;
 use pi_base::stream_sink::{ErrSink, OutSink};
-use pi_exit::{run_program, words_behind_name};
+use pi_top::{run_program, words_behind_name};
 use std::process::ExitCode;
 
 fn main(rt: HostRuntime) -> ExitCode {

@@ -11,3 +11,4 @@ pub mod Run
 pub mod Seen
 pub mod SmallCall
 pub mod Statuses
+pub mod Exits

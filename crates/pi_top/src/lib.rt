@@ -9,5 +9,7 @@ mod lines;
 mod operands;
 mod outcome;
 mod plain;
+mod program;
 
 pub use answer::tool;
+pub use program::{WordsFault, run_program, words_behind_name};

@@ -4,7 +4,8 @@ use Rattle.std.specs.List.{list_all, list_any}
 use Rattle.pi_bytes.specs.Place.{Place}
 use Rattle.pi_bytes.specs.Leb.{uleb_at}
 use Rattle.pi_model.specs.Texts.{same_text}
-use Rattle.pi_format.specs.Bytes.{word_at, ◌>>=◌}
+use Rattle.pi_bytes.specs.Numbers.{word_at}
+use Rattle.pi_insn.specs.Chain.{◌>>=◌}
 use Rattle.pi_format.specs.Tables.{count_at, field_ids, method_ids, class_defs}
 use Rattle.pi_format.specs.declared.lists.MemberList.{MemberList}
 use Rattle.pi_format.specs.declared.lists.MemberList.TheVariants.{StaticFields, InstanceFields, DirectMethods, VirtualMethods}

@@ -4,7 +4,7 @@ use Rattle.std.specs.List.{list_all}
 use Rattle.std.specs.Prelude.{nat_eq}
 use Rattle.pi_model.specs.Distinct.{all_distinct}
 use Rattle.pi_model.specs.Texts.{same_text}
-use Rattle.pi_format.specs.Bytes.{word_at}
+use Rattle.pi_bytes.specs.Numbers.{word_at}
 use Rattle.pi_format.specs.Tables.{count_at, type_ids, class_defs}
 use Rattle.pi_format.specs.Rules.Entries.{entry_at, broken_entry, some_from, list_fits, list_at}
 use Rattle.pi_format.specs.Rules.Descriptors.{is_class_type}

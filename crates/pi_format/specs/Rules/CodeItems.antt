@@ -3,7 +3,8 @@ use Rattle.std.specs.Prelude.{ℕ, zero, suc, ◌+◌, ◌-◌, ◌*◌, ◌%◌
 use Rattle.std.specs.List.{list_any}
 use Rattle.pi_bytes.specs.Place.{Place}
 use Rattle.pi_bytes.specs.Leb.{uleb_at, sleb_at}
-use Rattle.pi_format.specs.Bytes.{half_at, word_at, in_file, ◌>>=◌}
+use Rattle.pi_bytes.specs.Numbers.{half_at, word_at, in_file}
+use Rattle.pi_insn.specs.Chain.{◌>>=◌}
 use Rattle.pi_format.specs.Tables.{count_at, type_ids, class_defs}
 use Rattle.pi_format.specs.Rules.Entries.{each_from, list_at}
 use Rattle.pi_format.specs.Rules.Header.{unless}

@@ -1,6 +1,6 @@
 -- Numbers below a bound, and the entries of tables, one by one.
-use Rattle.std.specs.Prelude.{ℕ, zero, suc, ◌+◌, ◌*◌, ◌%◌, ◌==◌, ◌&&◌, ◌||◌, List, [], ◌∷◌, Option, Some, None, Bool, true, false, if◌then◌else◌, option_map}
-use Rattle.pi_format.specs.Bytes.{half_at, word_at, in_file}
+use Rattle.std.specs.Prelude.{ℕ, zero, suc, ◌+◌, ◌*◌, ◌%◌, ◌==◌, ◌&&◌, ◌||◌, List, [], Option, Some, None, Bool, true, false, if◌then◌else◌, option_map}
+use Rattle.pi_bytes.specs.Numbers.{word_at, in_file, halves_at}
 use Rattle.pi_format.specs.Tables.{count_at, table_at}
 
 -- the first of n numbers, from i on, that breaks a test
@@ -29,11 +29,6 @@ broken_entry file table width holds = option_map (entry_at file table width) (fi
 -- a type list at an offset: none at offset 0, else a word and so many halves, at a multiple of four, in the file
 abbrev pub list_fits : List ℕ → ℕ → Bool
 list_fits file at = (at == 0) || ((at % 4 == 0) && (in_file file at 4 && in_file file (at + 4) (2 * word_at file at)))
-
--- n halves one behind the other
-abbrev pub halves_at : List ℕ → ℕ → ℕ → List ℕ
-halves_at file at zero = []
-halves_at file at (suc n) = half_at file at ∷ halves_at file (at + 2) n
 
 -- the type ids of the list at an offset
 abbrev pub list_at : List ℕ → ℕ → List ℕ

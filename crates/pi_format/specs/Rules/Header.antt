@@ -1,9 +1,10 @@
 -- What the header must hold, rules X1 to X9: for each the place at which it is broken.
-use Rattle.std.specs.Prelude.{ℕ, ◌+◌, ◌*◌, ◌%◌, ◌==◌, ◌&&◌, nat_eq, nat_le, List, [], ◌∷◌, length, take, drop, Option, Some, None, Bool, if◌then◌else◌}
+use Rattle.std.specs.Prelude.{ℕ, ◌+◌, ◌==◌, ◌&&◌, nat_eq, nat_le, List, length, take, drop, Option, Some, None, Bool, if◌then◌else◌}
 use Rattle.std.specs.List.{starts_with}
 use Rattle.std.specs.Cmp.Lexicographic.{pointwise}
 use Rattle.sha1.specs.Sha1.{sha1}
-use Rattle.pi_format.specs.Bytes.{word_at}
+use Rattle.pi_bytes.specs.Numbers.{word_at}
+use Rattle.pi_bytes.specs.Sums.{adler}
 use Rattle.pi_format.specs.Tables.{magic, count_at, string_ids, type_ids, proto_ids, field_ids, method_ids, class_defs, table_holds}
 
 -- a place, unless what is asked holds
@@ -27,21 +28,6 @@ broken_header_size file = unless (word_at file 36 == 112) 36
 
 abbrev pub broken_file_size : List ℕ → Option ℕ
 broken_file_size file = unless (word_at file 32 == length file) 32
-
--- the two sums of Adler-32 over bytes, modulo the largest prime below 2^16
-pub record Sums : Type 0 where
-  pub a : ℕ
-  pub b : ℕ
-
-abbrev pub sums_from : Sums → List ℕ → Sums
-sums_from s [] = s
-sums_from s (x ∷ xs) = sums_from (record { a = (s.a + x) % 65521; b = (s.b + (s.a + x) % 65521) % 65521 }) xs
-
-abbrev pub checksum_of : Sums → ℕ
-checksum_of s = s.b * 65536 + s.a
-
-unfoldable pub adler : List ℕ → ℕ
-adler bytes = checksum_of (sums_from (record { a = 1; b = 0 }) bytes)
 
 -- X6: the checksum is that of the bytes behind it
 abbrev pub broken_checksum : List ℕ → Option ℕ

@@ -1,6 +1,6 @@
 -- What the map must hold, rule X10. Its place is always that of its offset in the header.
 use Rattle.std.specs.Prelude.{ℕ, ◌+◌, ◌*◌, ◌-◌, ◌%◌, ◌==◌, ◌&&◌, ◌||◌, not, nat_lt, nat_le, List, Option, Bool, if◌then◌else◌}
-use Rattle.pi_format.specs.Bytes.{half_at, word_at, in_file}
+use Rattle.pi_bytes.specs.Numbers.{half_at, word_at, in_file}
 use Rattle.pi_format.specs.Tables.{count_at, table_at, string_ids, type_ids, proto_ids, field_ids, method_ids, class_defs}
 use Rattle.pi_format.specs.Rules.Entries.{some_from, each_from}
 use Rattle.pi_format.specs.Rules.Header.{unless}

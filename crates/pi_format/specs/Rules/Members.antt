@@ -5,7 +5,7 @@ use Rattle.std.specs.declared.cmp.Ordering.{Ordering}
 use Rattle.std.specs.Ordering.{is_lt, nat_cmp, ordering_then}
 use Rattle.std.specs.Cmp.Lexicographic.{slice_cmp}
 use Rattle.pi_model.specs.Texts.{same_text}
-use Rattle.pi_format.specs.Bytes.{half_at, word_at}
+use Rattle.pi_bytes.specs.Numbers.{half_at, word_at}
 use Rattle.pi_format.specs.Tables.{count_at, string_ids, type_ids, proto_ids, field_ids, method_ids}
 use Rattle.pi_format.specs.Rules.Entries.{entry_at, broken_entry, list_fits, list_at}
 use Rattle.pi_format.specs.Rules.Descriptors.{is_class_type, is_array_type, is_void, short_letter, words_of_type, is_member_name, is_method_name}

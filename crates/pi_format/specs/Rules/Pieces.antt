@@ -7,9 +7,9 @@ use Rattle.pi_insn.specs.declared.raw.InsnError.{InsnError}
 use Rattle.pi_insn.specs.Numbers.{signed, word}
 use Rattle.pi_insn.specs.Reading.{decoded}
 use Rattle.pi_insn.specs.Payloads.{Data, PackedData, SparseData, ArrayData, payload}
-use Rattle.pi_format.specs.Bytes.{word_at}
+use Rattle.pi_bytes.specs.Numbers.{word_at, halves_at}
 use Rattle.pi_format.specs.Tables.{count_at, string_ids, type_ids, field_ids, method_ids}
-use Rattle.pi_format.specs.Rules.Entries.{each_from, halves_at}
+use Rattle.pi_format.specs.Rules.Entries.{each_from}
 use Rattle.pi_format.specs.Rules.CodeItems.{lowest_in_code}
 
 -- the units of a code item

@@ -5,7 +5,7 @@ use Rattle.std.specs.Cmp.Lexicographic.{slice_cmp}
 use Rattle.pi_bytes.specs.declared.fault.ReadFault.{ReadFault}
 use Rattle.pi_bytes.specs.Leb.{uleb_by}
 use Rattle.pi_bytes.specs.Mutf8.{units_at}
-use Rattle.pi_format.specs.Bytes.{word_at}
+use Rattle.pi_bytes.specs.Numbers.{word_at}
 use Rattle.pi_format.specs.Tables.{count_at, string_ids, type_ids}
 use Rattle.pi_format.specs.Rules.Entries.{entry_at, broken_entry}
 use Rattle.pi_format.specs.Rules.Descriptors.{is_descriptor}

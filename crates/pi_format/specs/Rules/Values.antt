@@ -4,7 +4,7 @@ use Rattle.pi_bytes.specs.Place.{Place}
 use Rattle.pi_bytes.specs.Reading.{number_at}
 use Rattle.pi_bytes.specs.Leb.{uleb_at}
 use Rattle.pi_model.specs.Texts.{same_text}
-use Rattle.pi_format.specs.Bytes.{◌>>=◌}
+use Rattle.pi_insn.specs.Chain.{◌>>=◌}
 use Rattle.pi_format.specs.Tables.{count_at, string_ids, type_ids, field_ids, class_defs}
 use Rattle.pi_format.specs.Rules.Header.{unless}
 use Rattle.pi_format.specs.Rules.Descriptors.{begins_with, is_class_type, is_array_type}

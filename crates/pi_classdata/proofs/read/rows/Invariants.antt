@@ -6,5 +6,5 @@ use Rattle.pi_classdata.proofs.read.rows.Given as goal
 
 abbrev pub invariant-loop : goal.invariant-loop
 invariant-loop l =
-    joined l.rows (rows_from (row_holds l.view l.owner l.list) l.list (l.count - l.counter) l.before l.cursor)
-    ≡ rows_from (row_holds l.view l.owner l.list) l.list l.count None l.fn.cursor
+    joined l.rows (rows_from (row_holds l.raw l.owner l.list) l.list (l.count - l.counter) l.before l.cursor)
+    ≡ rows_from (row_holds l.raw l.owner l.list) l.list l.count None l.fn.cursor

@@ -8,6 +8,6 @@ use Rattle.pi_classdata.proofs.table.read_rows.Given as goal
 
 abbrev pub invariant-loop-i : goal.invariant-loop-i
 invariant-loop-i l = record {
-  lowest : lower l.broken (lowest_from (λ k. unless (is_some (class_rows l.view k)) (class_data_at l.view k)) l.i (count_at l.view class_defs - l.i)) ≡ broken_class_data l.view;
-  so_far : l.classes.items ++ listed (rows_of l.view) l.i (count_at l.view class_defs - l.i) ≡ listed (rows_of l.view) 0 (count_at l.view class_defs);
+  lowest : lower l.broken (lowest_from (λ k. unless (is_some (class_rows l.raw k)) (class_data_at l.raw k)) l.i (count_at l.raw class_defs - l.i)) ≡ broken_class_data l.raw;
+  so_far : l.classes.items ++ listed (rows_of l.raw) l.i (count_at l.raw class_defs - l.i) ≡ listed (rows_of l.raw) 0 (count_at l.raw class_defs);
 }

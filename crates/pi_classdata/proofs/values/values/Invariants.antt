@@ -5,4 +5,4 @@ use Rattle.pi_classdata.proofs.values.values.Given as goal
 
 abbrev pub invariant-loop-k : goal.invariant-loop-k
 invariant-loop-k l =
-    read_behind l.values (values_from l.view (drop l.k l.fields) (l.count - l.k) l.cursor) ≡ values_from l.view l.fields l.count l.fn.cursor
+    read_behind l.values (values_from l.raw (drop l.k l.fields) (l.count - l.k) l.cursor) ≡ values_from l.raw l.fields l.count l.fn.cursor

@@ -2,27 +2,27 @@ use Rattle.std.proofs.Common.{◌≡◌, ℕ, ◌+◌, ◌-◌, ◌<◌, ◌≤�
 use Rattle.pi_format.specs.Tables.{count_at, class_defs}
 use Rattle.pi_format.specs.Rules.Lowest.{lower, lowest_from}
 use Rattle.pi_format.specs.Rules.ClassData.{rows_of}
-use Rattle.pi_classdata.proofs.Loops.{lowest_goes, lowest_done, listed_length}
+use Rattle.pi_format.proofs.Loops.{lowest_goes, lowest_done, listed_length}
 use Rattle.pi_classdata.proofs.Places.{values_place}
 use Rattle.pi_classdata.proofs.values.values_rule.Goals as goal
 
 pub loop-i-init : goal.loop-i-init
 loop-i-init c =
-    let file = c.args.view.now in
+    let file = c.args.raw.now in
     let n : ℕ = count_at file class_defs in
     let all : n - 0 ≡ n = omega arith in
     ap (lowest_from (values_place file) 0) all
 
 pub get-requires : goal.get-requires
 get-requires c =
-    let file = c.args.view.now in
+    let file = c.args.raw.now in
     let n : ℕ = count_at file class_defs in
     let all : length c.args.table.now ≡ n = ap length c.requires ∙ listed_length (rows_of file) 0 n in
     omega (arith, c.class_defs-i-end.ensures, all)
 
 pub loop-i-preserved : goal.loop-i-preserved
 loop-i-preserved c =
-    let file = c.args.view.now in
+    let file = c.args.raw.now in
     let i = c.loop-i.i in
     let n : ℕ = count_at file class_defs in
     let lt : i < n = omega (arith, c.class_defs-i-end.ensures) in
@@ -33,7 +33,7 @@ loop-i-preserved c =
 
 pub returns : goal.returns
 returns c =
-    let file = c.args.view.now in
+    let file = c.args.raw.now in
     let n : ℕ = count_at file class_defs in
     let le : n ≤ c.loop-i.i = omega (arith, c.class_defs-i-end.ensures) in
     sym (lowest_done (values_place file) c.loop-i.broken c.loop-i.i n le) ∙ c.loop-i.invariant

@@ -9,4 +9,4 @@ use Rattle.pi_classdata.proofs.values.values_rule.Given as goal
 
 abbrev pub invariant-loop-i : goal.invariant-loop-i
 invariant-loop-i l =
-    lower l.broken (lowest_from (λ k. unless (is_some (class_values l.view k)) (class_values_at l.view k)) l.i (count_at l.view class_defs - l.i)) ≡ broken_values l.view
+    lower l.broken (lowest_from (λ k. unless (is_some (class_values l.raw k)) (class_values_at l.raw k)) l.i (count_at l.raw class_defs - l.i)) ≡ broken_values l.raw

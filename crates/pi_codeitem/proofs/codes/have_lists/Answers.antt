@@ -1,6 +1,6 @@
 use Rattle.std.proofs.Common.{◌≡◌, sym, ap, ◌∙◌, arith}
 use Rattle.pi_format.specs.Rules.CodeItems.{CodeHead}
-use Rattle.pi_codeitem.proofs.Loops.{each_goes, each_stops}
+use Rattle.pi_format.proofs.Loops.{each_goes, each_stops}
 use Rattle.pi_codeitem.proofs.Listing.{has_list, has_it}
 use Rattle.pi_codeitem.proofs.codes.have_lists.Goals as goal
 

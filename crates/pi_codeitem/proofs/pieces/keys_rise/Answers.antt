@@ -1,6 +1,6 @@
 use Rattle.std.proofs.Common.{◌/◌, length, sym, ◌∙◌}
 use Rattle.pi_format.specs.Rules.Pieces.{key_rises}
-use Rattle.pi_codeitem.proofs.Loops.{each_goes, each_stops, each_done}
+use Rattle.pi_format.proofs.Loops.{each_goes, each_stops, each_done}
 use Rattle.pi_codeitem.proofs.pieces.keys_rise.Goals as goal
 
 pub returns-then-not-key_rises : goal.returns-then-not-key_rises

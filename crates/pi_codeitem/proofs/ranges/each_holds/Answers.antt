@@ -1,6 +1,6 @@
 use Rattle.std.proofs.Common.{sym, ◌∙◌}
 use Rattle.pi_format.specs.Rules.CodeItems.{range_holds}
-use Rattle.pi_codeitem.proofs.Loops.{each_goes, each_stops, each_done}
+use Rattle.pi_format.proofs.Loops.{each_goes, each_stops, each_done}
 use Rattle.pi_codeitem.proofs.ranges.each_holds.Goals as goal
 
 pub returns-then-not-range_holds : goal.returns-then-not-range_holds

@@ -2,8 +2,8 @@ use Rattle.std.proofs.Common.{sym, ◌∙◌, arith}
 use Rattle.pi_model.specs.declared.describe.Init.TheVariants.{Zero}
 use Rattle.pi_format.specs.Says.Classes.{field_desc}
 use Rattle.pi_dex.specs.Judged.{IsField}
-use Rattle.pi_dex.proofs.Lowest.{all_at}
-use Rattle.pi_dex.proofs.Listing.{map_go, map_end}
+use Rattle.pi_format.proofs.Every.{all_at}
+use Rattle.pi_format.proofs.Loops.{map_go, map_end}
 use Rattle.pi_dex.proofs.classes.add_instances.Goals as goal
 
 pub field_desc-requires : goal.field_desc-requires

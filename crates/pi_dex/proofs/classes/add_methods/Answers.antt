@@ -1,8 +1,8 @@
 use Rattle.std.proofs.Common.{sym, ◌∙◌, arith}
 use Rattle.pi_format.specs.Says.Classes.{method_desc}
 use Rattle.pi_dex.specs.Judged.{SaysMethod}
-use Rattle.pi_dex.proofs.Lowest.{all_at}
-use Rattle.pi_dex.proofs.Listing.{map_go, map_end}
+use Rattle.pi_format.proofs.Every.{all_at}
+use Rattle.pi_format.proofs.Loops.{map_go, map_end}
 use Rattle.pi_dex.proofs.classes.add_methods.Goals as goal
 
 pub method_desc-requires : goal.method_desc-requires

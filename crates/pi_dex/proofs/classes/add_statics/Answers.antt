@@ -1,6 +1,6 @@
 use Rattle.std.proofs.Common.{drop, sym, ◌∙◌, arith}
 use Rattle.pi_dex.specs.Judged.{IsField}
-use Rattle.pi_dex.proofs.Lowest.{all_at}
+use Rattle.pi_format.proofs.Every.{all_at}
 use Rattle.pi_dex.proofs.Listing.{statics_go, statics_end}
 use Rattle.pi_dex.proofs.classes.add_statics.Goals as goal
 

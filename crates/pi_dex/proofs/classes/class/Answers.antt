@@ -15,7 +15,7 @@ fields-requires-clause-instances c = (says_rows c.args.names.now.file c.args.i c
 pub fields-requires-clause-values : goal.fields-requires-clause-values
 fields-requires-clause-values c =
     let file = c.args.names.now.file in
-    let values = c.values_of.ensures ∙ ap values_in (c.in_ok-values.ensures ∙ ap (λ (f : List ℕ). class_values f c.args.i) c.view-view.ensures) in
+    let values = c.values_of.ensures ∙ ap values_in (c.in_ok-values.ensures ∙ ap (λ (f : List ℕ). class_values f c.args.i) c.raw-raw.ensures) in
     subst (λ (vs : List EncodedValue). All (IsInit file) vs) (sym values) c.requires.says.values
 
 pub methods-requires-clause-directs : goal.methods-requires-clause-directs

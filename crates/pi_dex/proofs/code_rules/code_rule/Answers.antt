@@ -3,13 +3,13 @@ use Rattle.pi_format.specs.Tables.{count_at, class_defs}
 use Rattle.pi_format.specs.Rules.Lowest.{lower, lowest_from, lowest_of}
 use Rattle.pi_format.specs.Rules.ClassData.{ClassRows, methods_in}
 use Rattle.pi_dex.specs.Judged.{code_place}
-use Rattle.pi_dex.proofs.Lowest.{from_goes, from_done}
+use Rattle.pi_format.proofs.Loops.{lowest_goes, lowest_done}
 use Rattle.pi_dex.proofs.Faults.{class_place}
 use Rattle.pi_dex.proofs.code_rules.code_rule.Goals as goal
 
 pub loop-i-init : goal.loop-i-init
 loop-i-init c =
-    let file = c.args.view.now in
+    let file = c.args.raw.now in
     let n : ℕ = count_at file class_defs in
     let all : n - 0 ≡ n = omega arith in
     ap (lowest_from (class_place code_place file) 0) all
@@ -19,18 +19,18 @@ members-requires-clause-counted c = omega (arith, c.class_defs-i-end.ensures)
 
 pub loop-i-preserved : goal.loop-i-preserved
 loop-i-preserved c =
-    let file = c.args.view.now in
+    let file = c.args.raw.now in
     let i = c.loop-i.i in
     let n : ℕ = count_at file class_defs in
     let lt : i < n = omega (arith, c.class_defs-i-end.ensures) in
     ap (λ (o : Option ℕ). lower o (lowest_from (class_place code_place file) (i + 1) (n - (i + 1))))
     (c.lower-lowest.ensures ∙ ap (lower c.loop-i.lowest) (c.in_ok-here.ensures ∙ ap (λ (r : ClassRows). lowest_of (code_place file) (methods_in r)) c.members.ensures.rows))
-    ∙ from_goes (class_place code_place file) c.loop-i.lowest i n lt
+    ∙ lowest_goes (class_place code_place file) c.loop-i.lowest i n lt
     ∙ c.loop-i.invariant
 
 pub returns : goal.returns
 returns c =
-    let file = c.args.view.now in
+    let file = c.args.raw.now in
     let n : ℕ = count_at file class_defs in
     let le : n ≤ c.loop-i.i = omega (arith, c.class_defs-i-end.ensures) in
-    sym (from_done (class_place code_place file) c.loop-i.lowest c.loop-i.i n le) ∙ c.loop-i.invariant
+    sym (lowest_done (class_place code_place file) c.loop-i.lowest c.loop-i.i n le) ∙ c.loop-i.invariant

@@ -7,4 +7,4 @@ use Rattle.pi_dex.proofs.Faults.{class_place}
 use Rattle.pi_dex.proofs.code_rules.code_rule.Given as goal
 
 abbrev pub invariant-loop-i : goal.invariant-loop-i
-invariant-loop-i l = lower l.lowest (lowest_from (class_place code_place l.view) l.i (count_at l.view class_defs - l.i)) ≡ broken_code l.view
+invariant-loop-i l = lower l.lowest (lowest_from (class_place code_place l.raw) l.i (count_at l.raw class_defs - l.i)) ≡ broken_code l.raw

@@ -8,4 +8,4 @@ returns c =
     let rows = c.args.rows.now in
     let directs : c.as_slice.result.now ≡ rows.directs = c.as_slice.ensures ∙ ap (λ (r : ClassRows). r.directs) c.rows.view_is in
     let virtuals : c.as_slice-2.result.now ≡ rows.virtuals = c.as_slice-2.ensures ∙ ap (λ (r : ClassRows). r.virtuals) c.rows.view_is in
-    c.both.ensures ∙ rw (c.in_ok-direct.ensures, c.in_ok-virtual_.ensures, directs, virtuals) (faults_join c.args.view.now rows.directs rows.virtuals)
+    c.both.ensures ∙ rw (c.in_ok-direct.ensures, c.in_ok-virtual_.ensures, directs, virtuals) (faults_join c.args.raw.now rows.directs rows.virtuals)

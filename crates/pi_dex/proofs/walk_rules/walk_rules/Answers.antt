@@ -4,7 +4,7 @@ use Rattle.pi_format.specs.Tables.{count_at, class_defs}
 use Rattle.pi_format.specs.Rules.ClassData.{ClassRows, methods_in}
 use Rattle.pi_dex.specs.declared.walk_rules.Faults.{Faults}
 use Rattle.pi_dex.specs.Judged.{CodeLies, both_faults, faults_of}
-use Rattle.pi_dex.proofs.Lowest.{all_left, all_right}
+use Rattle.pi_format.proofs.Every.{all_left, all_right}
 use Rattle.pi_dex.proofs.Codes.{rows_lie}
 use Rattle.pi_dex.proofs.Faults.{faults_from, classes_go, classes_done}
 use Rattle.pi_dex.proofs.walk_rules.walk_rules.Goals as goal
@@ -14,28 +14,28 @@ members-requires-clause-counted c = omega (arith, c.class_defs-i-end.ensures)
 
 pub class_faults-requires-clause-directs : goal.class_faults-requires-clause-directs
 class_faults-requires-clause-directs c =
-    let file = c.args.view.now in
+    let file = c.args.raw.now in
     let lt : c.loop-i.i < count_at file class_defs = omega (arith, c.class_defs-i-end.ensures) in
     let lie = subst (λ (r : ClassRows). All (CodeLies file) (methods_in r)) (sym c.members.ensures.rows) (rows_lie file c.loop-i.i c.requires.code lt) in
     all_left (CodeLies file) c.members.result.now.directs c.members.result.now.virtuals lie
 
 pub class_faults-requires-clause-virtuals : goal.class_faults-requires-clause-virtuals
 class_faults-requires-clause-virtuals c =
-    let file = c.args.view.now in
+    let file = c.args.raw.now in
     let lt : c.loop-i.i < count_at file class_defs = omega (arith, c.class_defs-i-end.ensures) in
     let lie = subst (λ (r : ClassRows). All (CodeLies file) (methods_in r)) (sym c.members.ensures.rows) (rows_lie file c.loop-i.i c.requires.code lt) in
     all_right (CodeLies file) c.members.result.now.directs c.members.result.now.virtuals lie
 
 pub loop-i-init : goal.loop-i-init
 loop-i-init c =
-    let file = c.args.view.now in
+    let file = c.args.raw.now in
     let n : ℕ = count_at file class_defs in
     let all : n - 0 ≡ n = omega arith in
     ap (λ (f : Faults). both_faults f (faults_from file 0 (n - 0))) c.none-lowest.ensures ∙ ap (faults_from file 0) all
 
 pub loop-i-preserved : goal.loop-i-preserved
 loop-i-preserved c =
-    let file = c.args.view.now in
+    let file = c.args.raw.now in
     let i = c.loop-i.i in
     let n : ℕ = count_at file class_defs in
     let lt : i < n = omega (arith, c.class_defs-i-end.ensures) in
@@ -46,21 +46,21 @@ loop-i-preserved c =
 
 pub returns-clause-walk : goal.returns-clause-walk
 returns-clause-walk c =
-    let file = c.args.view.now in
+    let file = c.args.raw.now in
     let n : ℕ = count_at file class_defs in
     let le : n ≤ c.loop-i.i = omega (arith, c.class_defs-i-end.ensures) in
     ap (λ (f : Faults). f.walk) (sym (classes_done file c.loop-i.lowest c.loop-i.i n le) ∙ c.loop-i.invariant)
 
 pub returns-clause-index : goal.returns-clause-index
 returns-clause-index c =
-    let file = c.args.view.now in
+    let file = c.args.raw.now in
     let n : ℕ = count_at file class_defs in
     let le : n ≤ c.loop-i.i = omega (arith, c.class_defs-i-end.ensures) in
     ap (λ (f : Faults). f.index) (sym (classes_done file c.loop-i.lowest c.loop-i.i n le) ∙ c.loop-i.invariant)
 
 pub returns-clause-payload : goal.returns-clause-payload
 returns-clause-payload c =
-    let file = c.args.view.now in
+    let file = c.args.raw.now in
     let n : ℕ = count_at file class_defs in
     let le : n ≤ c.loop-i.i = omega (arith, c.class_defs-i-end.ensures) in
     ap (λ (f : Faults). f.payload) (sym (classes_done file c.loop-i.lowest c.loop-i.i n le) ∙ c.loop-i.invariant)

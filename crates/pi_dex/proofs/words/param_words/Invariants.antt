@@ -6,4 +6,4 @@ use Rattle.pi_dex.proofs.words.param_words.Given as goal
 
 abbrev pub invariant-loop-i : goal.invariant-loop-i
 invariant-loop-i l =
-    l.words + sum_by (λ t. words_of_type (type_units l.view t)) (drop l.i l.params) ≡ sum_by (λ t. words_of_type (type_units l.view t)) l.params
+    l.words + sum_by (λ t. words_of_type (type_units l.raw t)) (drop l.i l.params) ≡ sum_by (λ t. words_of_type (type_units l.raw t)) l.params

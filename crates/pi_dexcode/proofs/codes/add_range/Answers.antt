@@ -11,8 +11,8 @@ use Rattle.pi_dexcode.proofs.codes.add_range.Goals as goal
 pub add_list-requires-clause-ends : goal.add_list-requires-clause-ends
 add_list-requires-clause-ends c =
     let file = c.args.names.now.file in
-    let range = whole_range file c.file.result.now c.args.at c.args.head.now c.args.k c.try_range-range.result (c.file.ensures.value ∙ c.view.ensures) c.requires.head c.try_range-range.ensures in
-    let few = subst (λ (f : List ℕ). length f ≤ 16777216) c.view.ensures c.file.ensures.small in
+    let range = whole_range file c.file.result.now c.args.at c.args.head.now c.args.k c.try_range-range.result (c.file.ensures.value ∙ c.raw.ensures) c.requires.head c.try_range-range.ensures in
+    let few = subst (λ (f : List ℕ). length f ≤ 16777216) c.raw.ensures c.file.ensures.small in
     subst (λ (r : TryRange). r.from + r.size < 4294967296) (sym range)
     (range_small file c.args.at c.args.head.now c.args.k few c.requires.lies c.requires.head c.requires.hold c.requires.counted)
 
@@ -23,7 +23,7 @@ add_list-requires-clause-types c =
 
 pub returns-in-None : goal.returns-in-None
 returns-in-None c =
-    let range = whole_range c.args.names.now.file c.file.result.now c.args.at c.args.head.now c.args.k c.try_range-range.result (c.file.ensures.value ∙ c.view.ensures) c.requires.head c.try_range-range.ensures in
+    let range = whole_range c.args.names.now.file c.file.result.now c.args.at c.args.head.now c.args.k c.try_range-range.result (c.file.ensures.value ∙ c.raw.ensures) c.requires.head c.try_range-range.ensures in
     let there : c.lists_at.result + c.range.inside.handlers ≡ lists_at c.args.at c.args.head.now + c.try_range-range.result.handlers =
     ap (λ (n : ℕ). n + c.range.inside.handlers) c.lists_at.ensures ∙ ap (λ (r : TryRange). lists_at c.args.at c.args.head.now + r.handlers) c.range.view_is in
     let e = catches_found c.args.names.now c.args.at c.args.head.now c.args.lists.now c.args.k (c.lists_at.result + c.range.inside.handlers) c.try_range-range.result None range there c.in-None.ensures in
@@ -31,7 +31,7 @@ returns-in-None c =
 
 pub returns-in-Some : goal.returns-in-Some
 returns-in-Some c =
-    let range = whole_range c.args.names.now.file c.file.result.now c.args.at c.args.head.now c.args.k c.try_range-range.result (c.file.ensures.value ∙ c.view.ensures) c.requires.head c.try_range-range.ensures in
+    let range = whole_range c.args.names.now.file c.file.result.now c.args.at c.args.head.now c.args.k c.try_range-range.result (c.file.ensures.value ∙ c.raw.ensures) c.requires.head c.try_range-range.ensures in
     let there : c.lists_at.result + c.range.inside.handlers ≡ lists_at c.args.at c.args.head.now + c.try_range-range.result.handlers =
     ap (λ (n : ℕ). n + c.range.inside.handlers) c.lists_at.ensures ∙ ap (λ (r : TryRange). lists_at c.args.at c.args.head.now + r.handlers) c.range.view_is in
     let e = catches_found c.args.names.now c.args.at c.args.head.now c.args.lists.now c.args.k (c.lists_at.result + c.range.inside.handlers) c.try_range-range.result (Some c.in-Some.list.now) range there c.in-Some.ensures in

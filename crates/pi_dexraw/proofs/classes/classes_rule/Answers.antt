@@ -2,8 +2,8 @@ use Rattle.std.proofs.Common.{◌≡◌, ℕ, ◌-◌, ◌/◌, ◌<◌, ◌≤�
 use Rattle.pi_format.specs.Tables.{count_at, class_defs}
 use Rattle.pi_format.specs.Rules.Entries.{entry_at, first_bad}
 use Rattle.pi_format.specs.Rules.Classes.{class_holds}
-use Rattle.pi_dexraw.proofs.Loops.{bad_goes}
-use Rattle.pi_dexraw.proofs.Places.{rule_stops, rule_ends}
+use Rattle.pi_format.proofs.Loops.{bad_goes}
+use Rattle.pi_dexids.proofs.Places.{rule_stops, rule_ends}
 use Rattle.pi_dexraw.proofs.Judged.{none_known}
 use Rattle.pi_dexraw.proofs.Faces.{same_marks}
 use Rattle.pi_dexraw.proofs.classes.classes_rule.Goals as goal

@@ -2,7 +2,7 @@ use Rattle.std.proofs.Common.{◌≡◌, ◌+◌, ◌-◌, length}
 use Rattle.pi_format.specs.Tables.{count_at, class_defs, type_ids}
 use Rattle.pi_format.specs.Rules.Entries.{first_bad}
 use Rattle.pi_format.specs.Rules.Classes.{class_holds}
-use Rattle.pi_dexraw.specs.Facts.{AreInRange, AreKnown}
+use Rattle.pi_dexraw.specs.Interfaces.{AreInRange, AreKnown}
 use Rattle.pi_dexraw.proofs.classes.classes_rule.Given as goal
 
 abbrev pub invariant-loop-i : goal.invariant-loop-i

@@ -14,7 +14,7 @@ returns-clause-value c =
     let given = c.file-file.result.now in
     let same = c.file-file.ensures.same in
     let place : ℕ = (class_entry file i).faces in
-    let at = c.faces_of-at.ensures.value ∙ ap (λ (g : List ℕ). (class_entry g i).faces) same in
+    let at = c.class_def_at-at.ensures.faces ∙ ap (λ (g : List ℕ). (class_entry g i).faces) same in
     let fit = sym (c.fits.ensures ∙ ap (list_fits given) at ∙ ap (λ (g : List ℕ). list_fits g place) same) ∙ c.if-not-fits.false in
     c.is_from.ensures
     ∙ sym (c.in_ok-from.ensures.value.each i c.requires.counted)

@@ -1,7 +1,7 @@
 use Rattle.std.proofs.Common.{◌<◌, sym, ◌∙◌, arith}
 use Rattle.std.specs.Prelude.{◌==◌, ◌&&◌}
 use Rattle.pi_format.specs.Rules.Map.{item_count, item_type, item_size, item_offset}
-use Rattle.pi_dexraw.proofs.Loops.{some_goes, some_stops}
+use Rattle.pi_format.proofs.Loops.{some_goes, some_stops}
 use Rattle.pi_dexraw.proofs.map.has.Goals as goal
 
 pub returns-then-is_it : goal.returns-then-is_it

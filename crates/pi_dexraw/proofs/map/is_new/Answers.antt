@@ -2,7 +2,7 @@ use Rattle.std.proofs.Common.{ℕ, Bool, ap, ◌∙◌, arith}
 use Rattle.std.specs.Prelude.{◌==◌, not}
 use Rattle.pi_format.specs.Rules.Entries.{some_from}
 use Rattle.pi_format.specs.Rules.Map.{item_type}
-use Rattle.pi_dexraw.proofs.Lists.{fact_is}
+use Rattle.pi_dexids.proofs.Lists.{fact_is}
 use Rattle.pi_dexraw.proofs.map.is_new.Goals as goal
 
 pub returns : goal.returns

@@ -2,9 +2,9 @@ use Rattle.std.proofs.Common.{ℕ, ◌+◌, ◌<◌, true, sym, ◌∙◌, arith
 use Rattle.std.specs.Prelude.{◌==◌, ◌&&◌, slice_set}
 use Rattle.pi_format.specs.Rules.Entries.{some_from}
 use Rattle.pi_format.specs.Rules.Map.{item_count, item_type, item_rises, item_is_new, item_ends}
-use Rattle.pi_dexraw.specs.Facts.{AreFacts}
-use Rattle.pi_dexraw.proofs.Loops.{each_goes, each_stops}
-use Rattle.pi_dexraw.proofs.Lists.{kinds_marked}
+use Rattle.pi_dexids.specs.Facts.{AreFacts}
+use Rattle.pi_format.proofs.Loops.{each_goes, each_stops}
+use Rattle.pi_dexraw.proofs.Items.{kinds_marked}
 use Rattle.pi_dexraw.proofs.map.items.Goals as goal
 
 pub returns-then-not-holds : goal.returns-then-not-holds

@@ -2,7 +2,7 @@ use Rattle.std.proofs.Common.{◌≡◌, ◌-◌}
 use Rattle.std.specs.Prelude.{◌==◌, ◌&&◌}
 use Rattle.pi_format.specs.Rules.Entries.{some_from, each_from}
 use Rattle.pi_format.specs.Rules.Map.{item_count, item_type, item_rises, item_is_new, item_ends, items_hold}
-use Rattle.pi_dexraw.specs.Facts.{AreFacts}
+use Rattle.pi_dexids.specs.Facts.{AreFacts}
 use Rattle.pi_dexraw.proofs.map.items.Given as goal
 
 abbrev pub invariant-loop-i : goal.invariant-loop-i

@@ -2,7 +2,7 @@ use Rattle.std.proofs.Common.{◌≡◌, ◌<◌, true, false, sym, ap, ◌∙�
 use Rattle.std.specs.Prelude.{◌==◌, not}
 use Rattle.std.proofs.lemmas.Bool.Decides.{nat_tests}
 use Rattle.pi_format.specs.Rules.Map.{item_count, item_type, lacks_item}
-use Rattle.pi_dexraw.proofs.Loops.{some_goes, some_stops}
+use Rattle.pi_format.proofs.Loops.{some_goes, some_stops}
 use Rattle.pi_dexraw.proofs.map.lacks.Goals as goal
 
 pub returns-then-kind-wanted : goal.returns-then-kind-wanted

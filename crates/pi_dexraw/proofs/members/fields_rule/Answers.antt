@@ -2,8 +2,8 @@ use Rattle.std.proofs.Common.{◌≡◌, ℕ, ◌-◌, ◌<◌, ◌≤◌, List,
 use Rattle.pi_format.specs.Tables.{count_at, field_ids}
 use Rattle.pi_format.specs.Rules.Entries.{entry_at, first_bad}
 use Rattle.pi_format.specs.Rules.Members.{field_holds}
-use Rattle.pi_dexraw.proofs.Loops.{bad_goes}
-use Rattle.pi_dexraw.proofs.Places.{rule_stops, rule_ends}
+use Rattle.pi_format.proofs.Loops.{bad_goes}
+use Rattle.pi_dexids.proofs.Places.{rule_stops, rule_ends}
 use Rattle.pi_dexraw.proofs.members.fields_rule.Goals as goal
 
 pub returns-then-not-holds_field : goal.returns-then-not-holds_field

@@ -2,8 +2,8 @@ use Rattle.std.proofs.Common.{◌≡◌, ℕ, ◌<◌, ◌≤◌, List, Some, sy
 use Rattle.pi_format.specs.Tables.{count_at, proto_ids}
 use Rattle.pi_format.specs.Rules.Entries.{entry_at}
 use Rattle.pi_format.specs.Rules.Members.{proto_holds}
-use Rattle.pi_dexraw.proofs.Loops.{bad_goes}
-use Rattle.pi_dexraw.proofs.Places.{rule_stops, rule_ends}
+use Rattle.pi_format.proofs.Loops.{bad_goes}
+use Rattle.pi_dexids.proofs.Places.{rule_stops, rule_ends}
 use Rattle.pi_dexraw.proofs.Params.{one_more}
 use Rattle.pi_dexraw.proofs.protos.protos_rule.Goals as goal
 

@@ -5,7 +5,7 @@ use Rattle.pi_model.specs.Texts.{same_text}
 use Rattle.pi_format.specs.Rules.Entries.{list_at}
 use Rattle.pi_format.specs.Rules.Descriptors.{short_letter}
 use Rattle.pi_format.specs.Rules.Strings.{string_units, type_units}
-use Rattle.pi_format.specs.Rules.Members.{proto_entry, short_agrees}
+use Rattle.pi_format.specs.Rules.Members.{ProtoEntry, proto_entry, short_agrees}
 use Rattle.pi_dexraw.proofs.protos.spells_all.Goals as goal
 
 pub returns : goal.returns
@@ -15,11 +15,12 @@ returns c =
     let same = c.file-file.ensures.same in
     let i = c.args.i in
     let f : ℕ → ℕ = λ t. short_letter (type_units file t) in
-    let ret : c.ret_of.result ≡ (proto_entry file i).ret = c.ret_of.ensures ∙ ap (λ (g : List ℕ). (proto_entry g i).ret) same in
+    let given = c.file-file.result.now in
+    let entry = c.proto.view_is ∙ c.proto_at-proto.ensures ∙ ap (λ (g : List ℕ). proto_entry g i) same in
     let wanted = c.as_slice.ensures.value ∙ c.in_ok-wanted.ensures
-    ∙ ap (λ (r : ℕ). short_letter (type_units file r) ∷ map f c.args.params.now) ret
+    ∙ ap (λ (e : ProtoEntry). short_letter (type_units file e.ret) ∷ map f c.args.params.now) entry
     ∙ ap (λ (ps : List ℕ). short_letter (type_units file (proto_entry file i).ret) ∷ map f ps) c.requires.params in
-    let short = ap (string_units c.file-file.result.now) c.short_of.ensures ∙ ap (λ (g : List ℕ). string_units g (proto_entry g i).short) same in
-    let whole = ap (λ (w : List ℕ). same_text w (string_units c.file-file.result.now c.short_of.result)) wanted
+    let short = ap (λ (e : ProtoEntry). string_units given e.short) entry ∙ ap (λ (g : List ℕ). string_units g (proto_entry file i).short) same in
+    let whole = ap (λ (w : List ℕ). same_text w (string_units given c.proto.inside.short)) wanted
     ∙ ap (same_text (short_letter (type_units file (proto_entry file i).ret) ∷ map f (list_at file (proto_entry file i).params))) short in
     subst (λ (b : Bool). IfOk c.spells.result (λ r. r ≡ b)) whole c.spells.ensures

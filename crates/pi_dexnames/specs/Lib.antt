@@ -1,2 +1,0 @@
--- One text more.
-pub mod Noting

@@ -1,6 +1,0 @@
-use Rattle.std.specs.Prelude.{false}
-use Rattle.pi_dexraw.specs.Facts.{AreFacts}
-use Rattle.pi_dexraw.proofs.facts.flags.Given as goal
-
-abbrev pub invariant-loop-done : goal.invariant-loop-done
-invariant-loop-done l = AreFacts (λ k. false) l.done l.list.items

@@ -1,5 +1,0 @@
-mod Places
-mod Halves
-mod Kept
-mod Texts
-mod Filled

@@ -1,2 +1,0 @@
--- What a view of a file keeps.
-pub mod Facts
