@@ -1,8 +1,9 @@
 -- How many bytes objects take, as they count against the limits on heap bytes. All of it is our own.
-use Rattle.std.specs.Prelude.{ℕ, zero, suc, ◌+◌, ◌-◌, ◌*◌, ◌/◌, ◌==◌, ◌||◌, List, length, Option, Some, None, Bool, false, if◌then◌else◌, slice_index, count_by, bit_and, option_map, unwrap_or}
+use Rattle.std.specs.Prelude.{ℕ, zero, suc, ◌+◌, ◌-◌, ◌*◌, ◌/◌, ◌==◌, ◌||◌, List, length, Option, Some, None, Bool, false, if◌then◌else◌, slice_index, count_by, not, option_map, unwrap_or}
 use Rattle.pi_model.specs.declared.numbers.NameNo.{NameNo}
 use Rattle.pi_model.specs.declared.describe.ClassDesc.{ClassDesc}
 use Rattle.pi_model.specs.declared.describe.FieldDesc.{FieldDesc}
+use Rattle.pi_model.specs.Flags.{is_static}
 use Rattle.pi_model.specs.Program.{Program}
 use Rattle.pi_model.specs.Texts.{units_of}
 use Rattle.pi_model.specs.Values.{Object, Instance, Array, Text}
@@ -25,7 +26,7 @@ sized width n = round_up (16 + width * n)
 
 -- a field that each instance has
 abbrev pub of_instances : FieldDesc → Bool
-of_instances f = bit_and f.flags 8 == 0
+of_instances f = not (is_static f.flags)
 
 -- the letter that a field's descriptor begins with
 abbrev pub letter_of : Program → FieldDesc → ℕ

@@ -6,6 +6,7 @@ use Rattle.std.specs.List.{list_all, list_any}
 use Rattle.pi_model.specs.declared.describe.ClassDesc.{ClassDesc}
 use Rattle.pi_model.specs.declared.describe.FieldDesc.{FieldDesc}
 use Rattle.pi_model.specs.declared.reason.ClassState.TheVariants.{Fresh, Done}
+use Rattle.pi_model.specs.Flags.{is_static}
 use Rattle.pi_model.specs.Program.{same_name, method_number}
 use Rattle.pi_model.specs.Values.{Word}
 use Rattle.pi_model.specs.Sizes.{sized, width_of}
@@ -14,7 +15,7 @@ use Rattle.pi_model.specs.Fields.{first_value}
 use Rattle.pi_model.specs.Known.{descriptor_of}
 use Rattle.pi_format.specs.Core.{core_names, int_name, object_name, out_name}
 use Rattle.pi_model.specs.Distinct.{all_distinct}
-use Rattle.pi_duty.specs.Small.{field_fits, has_no_value, is_static, has_text}
+use Rattle.pi_duty.specs.Small.{field_fits, has_no_value, has_text}
 use Rattle.pi_duty.specs.Shape.{small_chain, Brought}
 use Rattle.pi_model.specs.declared.numbers.NameNo.{NameNo}
 use Rattle.pi_top.proofs.Lookups.{ClassIs}
