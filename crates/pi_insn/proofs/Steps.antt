@@ -13,6 +13,12 @@ pub bind_some : {A B : Type 0} (o : Option A) (f : A → Option B) (y : B)
 bind_some None f y e = cc
 bind_some (Some x) f y e = (x, (refl, e))
 
+-- one that ends with a value made of the last step's number
+pub last_some : {A : Type 0} (o : Option ℕ) (f : ℕ → A) (y : A)
+    → (o >>= (λ n. Some (f n))) ≡ Some y → (n : ℕ) × ((o ≡ Some n) × (y ≡ f n))
+last_some None f y e = cc
+last_some (Some n) f y e = (n, (refl, cc))
+
 pub chosen : {A : Type 0} (b : Bool) (x y : A) → (if b then Some x else None) ≡ Some y → (b ≡ true) × (y ≡ x)
 chosen true x y e = (refl, cc)
 chosen false x y e = cc
@@ -49,12 +55,12 @@ pair_some op a b u e =
     (fits.0, fit.0, omega arith)
 
 -- numbers
-pub bits_some : (half : ℕ) (z : ℤ) (n : ℕ) → bits half z ≡ Some n → (signed half n ≡ z) × (n < 2 * half)
+pub bits_some : (half : ℕ) (z : ℤ) (n : ℕ) → bits half z ≡ Some n → signed half n ≡ z
 bits_some half (pos m) n e =
     let found = chosen (nat_lt m half) m n e in
     let test : nat_lt m half ≡ true = found.0 in
     let same : n ≡ m = found.1 in
-    (grind (arith, nat_tests), grind (arith, nat_tests))
+    grind (arith, nat_tests)
 bits_some half (negsuc m) n e =
     let found = chosen (nat_lt m half) (2 * half - suc m) n e in
     let test : nat_lt m half ≡ true = found.0 in
@@ -62,10 +68,9 @@ bits_some half (negsuc m) n e =
     let less : m < half = grind (arith, nat_tests) in
     let above : nat_lt n half ≡ false = grind (arith, nat_tests) in
     let back : 2 * half - suc n ≡ m = omega arith in
-    (rw (above, back) refl, omega arith)
+    rw (above, back) refl
 
-pub shortened_some : (half range v n : ℕ) → 2 * half ≤ range → shortened half range v ≡ Some n
-    → (extended half range n ≡ v) × (n < 2 * half)
+pub shortened_some : (half range v n : ℕ) → 2 * half ≤ range → shortened half range v ≡ Some n → extended half range n ≡ v
 shortened_some half range v n fits e = grind (arith, nat_tests)
 
 pub shifted_some : (unit v n : ℕ) → 0 < unit → shifted unit v ≡ Some n → n * unit ≡ v
