@@ -9,7 +9,7 @@ use Rattle.pi_model.specs.Known.{descriptor_of}
 use Rattle.pi_model.specs.Dispatch.{is_virtual}
 use Rattle.pi_model.specs.Program.{Program}
 use Rattle.pi_model.specs.Values.{Word, Array}
-use Rattle.pi_model.specs.Sizes.{sized}
+use Rattle.pi_model.specs.Sizes.{array_bytes}
 use Rattle.pi_model.specs.Search.{or_else}
 use Rattle.pi_machine.specs.State.{State}
 use Rattle.pi_machine.specs.Deeds.{Deed, Make, Jump}
@@ -40,9 +40,9 @@ alone : (n : ℕ) → 0 + (n + 0) ≡ n
 alone n = omega arith
 
 -- the object bytes are those of the one array
-made_bytes : (n : ℕ) → reason chain_of_c 29 1 false in_c (makes n) ≡ when (nat_lt image_limit (sized 4 n)) Heap
+made_bytes : (n : ℕ) → reason chain_of_c 29 1 false in_c (makes n) ≡ when (nat_lt image_limit (array_bytes 4 n)) Heap
 unfolding descriptor_of native_table is_virtual is_clinit
-made_bytes n = rw (length-replicate n (Word 0), alone (sized 4 n)) (or_none (when (nat_lt image_limit (sized 4 n)) Heap))
+made_bytes n = rw (length-replicate n (Word 0), alone (array_bytes 4 n)) (or_none (when (nat_lt image_limit (array_bytes 4 n)) Heap))
 
 -- 8,388,604 ints with the header of sixteen bytes are all that an image may have
 fits_exactly : reason chain_of_c 29 1 false in_c (makes 8388604) ≡ None

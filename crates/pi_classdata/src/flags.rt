@@ -1,7 +1,7 @@
 // Access flags, as the published format gives their bits.
 
 ghost use Rattle.std.specs.Prelude.{⊤, ◌≡◌, [], ◌∷◌, codes};
-ghost use Rattle.pi_format.specs.Rules.Flags.{has_flag, is_private, is_static, is_native, is_interface, is_abstract, is_flagged_constructor};
+ghost use Rattle.pi_model.specs.Flags.{is_public, is_private, is_static, is_native, is_interface, is_abstract, is_flagged_constructor};
 
 use bitflags::{Flag, Flags, bitflag_items};
 
@@ -46,7 +46,7 @@ impl Flags for AccessFlags {
 impl AccessFlags {
     /// Whether everyone may use it.
     pub fn is_public(self) -> bool
-        ensures { result ≡ has_flag 1 self.0 }
+        ensures { result ≡ is_public self.0 }
     {
         self.contains(AccessFlags::PUBLIC)
     }

@@ -6,7 +6,7 @@ ghost use Rattle.pi_format.specs.Tables.{count_at, type_ids, proto_ids};
 ghost use Rattle.pi_format.specs.Rules.{broken_tables_rule};
 ghost use Rattle.pi_format.specs.Rules.Descriptors.{words_of_type};
 ghost use Rattle.pi_format.specs.Rules.Entries.{list_at};
-ghost use Rattle.pi_format.specs.Rules.Flags.{is_static};
+ghost use Rattle.pi_model.specs.Flags.{is_static};
 ghost use Rattle.pi_format.specs.Rules.Members.{proto_entry};
 ghost use Rattle.pi_format.specs.Rules.Strings.{type_units};
 ghost use Rattle.pi_format.specs.Rules.ClassData.{method_proto};

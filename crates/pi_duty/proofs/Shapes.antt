@@ -12,6 +12,7 @@ use Rattle.pi_model.specs.declared.describe.Code.{Code}
 use Rattle.pi_model.specs.declared.describe.FieldDesc.{FieldDesc}
 use Rattle.pi_model.specs.declared.describe.ClassDesc.{ClassDesc}
 use Rattle.pi_model.specs.declared.describe.MethodDesc.{MethodDesc}
+use Rattle.pi_model.specs.Flags.{is_static}
 use Rattle.pi_model.specs.Distinct.{all_distinct}
 use Rattle.pi_model.specs.Program.{Program, no_files, same_name, with_file}
 use Rattle.pi_model.specs.Search.{same_names}
@@ -30,7 +31,7 @@ use Rattle.pi_format.specs.Says.Names.{Named, new_names, texts_of}
 use Rattle.pi_format.specs.Says.Classes.{types_said, classes_said, class_desc, method_desc}
 use Rattle.pi_format.specs.Says.Codes.{code_at}
 use Rattle.pi_machine.proofs.Truths.{both, either}
-use Rattle.pi_duty.specs.Small.{is_plain_text, is_static, has_no_value, field_fits, line_fits, insn_units, lies, ends_in_return, is_empty, code_fits, method_fits, main_fits, clinit_fits, methods_fit, parent_fits, class_fits, has_text, one_fits, is_small}
+use Rattle.pi_duty.specs.Small.{is_plain_text, has_no_value, field_fits, line_fits, insn_units, lies, ends_in_return, is_empty, code_fits, method_fits, main_fits, clinit_fits, methods_fit, parent_fits, class_fits, has_text, one_fits, is_small}
 use Rattle.pi_duty.specs.Shape.{Brought, small_chain, laid_from, code_laid, method_laid, code_small, method_small, HasSmallClass, IsSmall}
 
 -- every instruction has a length

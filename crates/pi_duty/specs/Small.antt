@@ -1,6 +1,6 @@
 -- Which programs a lazy run takes today: those of the first file and one file more, which has one small class. They are
 -- programs that files say, so what the rules of the format ask of a file holds of them already.
-use Rattle.std.specs.Prelude.{ℕ, ◌+◌, ◌-◌, ◌==◌, ◌&&◌, ◌||◌, not, nat_lt, nat_le, List, [], ◌∷◌, length, Option, Some, None, Bool, true, false, is_some, bit_and, slice_get}
+use Rattle.std.specs.Prelude.{ℕ, ◌+◌, ◌-◌, ◌==◌, ◌&&◌, ◌||◌, not, nat_lt, nat_le, List, [], ◌∷◌, length, Option, Some, None, Bool, true, false, is_some, slice_get}
 use Rattle.std.specs.List.{list_all}
 use Rattle.pi_model.specs.declared.numbers.NameNo.{NameNo}
 use Rattle.pi_model.specs.declared.insn.Insn.{Insn}
@@ -16,6 +16,7 @@ use Rattle.pi_model.specs.declared.describe.Init.TheVariants.{Zero}
 use Rattle.pi_model.specs.declared.describe.ClassDesc.{ClassDesc}
 use Rattle.pi_model.specs.declared.describe.FieldDesc.{FieldDesc}
 use Rattle.pi_model.specs.declared.describe.MethodDesc.{MethodDesc}
+use Rattle.pi_model.specs.Flags.{is_static}
 use Rattle.pi_model.specs.Program.{Program, same_name}
 use Rattle.pi_model.specs.Texts.{same_text}
 use Rattle.pi_model.specs.Search.{own_field, same_names}
@@ -27,10 +28,6 @@ is_plain unit = nat_lt 0 unit && nat_lt unit 128
 
 abbrev pub is_plain_text : List ℕ → Bool
 is_plain_text units = nat_lt (length units) 128 && list_all is_plain units
-
--- the flag that makes a member static
-abbrev pub is_static : ℕ → Bool
-is_static flags = bit_and flags 8 == 8
 
 abbrev pub is_zero : Init → Bool
 is_zero Zero = true

@@ -16,7 +16,6 @@ pub mod Descriptors
 pub mod Strings
 pub mod Members
 pub mod Classes
-pub mod Flags
 pub mod Lowest
 pub mod Rows
 pub mod ClassData

@@ -4,28 +4,28 @@ use Rattle.std.proofs.lemmas.List.{length-take-le, drop-drop, drop-set-lt, drop-
 use Rattle.std.proofs.lemmas.List.Sums.{sum_by-cons}
 use Rattle.std.proofs.lemmas.Option.{slice_get-get_or}
 use borrow.Rule.Slice.PartMut.{put_mid}
-use Rattle.pi_frames.specs.Frames.{frame_words, all_words, HasRegister, with_register, with_pc, fresh, frame_in, behind, frames_in, IsWhole, IsKept}
+use Rattle.pi_frames.specs.Frames.{frame_words, all_words, HasRegister, with_register, with_pc, fresh, frame_in, words_behind, frames_in, IsWhole, IsKept}
 use Rattle.pi_model.specs.declared.numbers.MethodNo.{MethodNo}
 
 pub length-frames_in : (d : ℕ) (ws : List ℕ) → length (frames_in d ws) ≡ d
 length-frames_in zero ws = refl
-length-frames_in (suc d) ws = ap suc (length-frames_in d (behind ws))
+length-frames_in (suc d) ws = ap suc (length-frames_in d (words_behind ws))
 
 -- the words of whole frames
 pub whole_words : (d : ℕ) (ws : List ℕ) → IsWhole d ws → all_words (frames_in d ws) ≡ length ws
 whole_words zero ws h = sym h
 whole_words (suc d) ws h =
-    let rest = whole_words d (behind ws) h.1 in
+    let rest = whole_words d (words_behind ws) h.1 in
     let four = length-drop 4 ws in
     let regs : length (take (get_or ws 2 0) (drop 4 ws)) ≡ get_or ws 2 0 = length-take-le (get_or ws 2 0) (drop 4 ws) (omega (arith, h.0, four)) in
     let past = length-drop (get_or ws 2 0) (drop 4 ws) in
-    sum_by-cons frame_words (frame_in ws) (frames_in d (behind ws)) ∙ omega (arith, h.0, rest, four, regs, past)
+    sum_by-cons frame_words (frame_in ws) (frames_in d (words_behind ws)) ∙ omega (arith, h.0, rest, four, regs, past)
 
 -- a frame has four words at least
 pub whole_depth : (d : ℕ) (ws : List ℕ) → IsWhole d ws → 4 * d ≤ length ws
 whole_depth zero ws h = omega arith
 whole_depth (suc d) ws h =
-    omega (arith, whole_depth d (behind ws) h.1, h.0, length-drop (get_or ws 2 0) (drop 4 ws), length-drop 4 ws)
+    omega (arith, whole_depth d (words_behind ws) h.1, h.0, length-drop (get_or ws 2 0) (drop 4 ws), length-drop 4 ws)
 
 -- the words have a register of that number, and all words of their first frame
 pub record First (ws : List ℕ) (i : ℕ) : Type 0 where
@@ -84,14 +84,14 @@ set_next (suc d) (a ∷ b ∷ c ∷ []) at some h = absurd (omega (arith, h.0))
 set_next (suc d) (a ∷ b ∷ c ∷ e ∷ rest) at some h = (refl, h)
 
 -- the frames below the top one
-pub popped : (d : ℕ) (ws : List ℕ) → 0 < length (frames_in d ws) → IsWhole d ws → (frames_in (d - 1) (behind ws) ≡ drop 1 (frames_in d ws)) × IsWhole (d - 1) (behind ws)
+pub popped : (d : ℕ) (ws : List ℕ) → 0 < length (frames_in d ws) → IsWhole d ws → (frames_in (d - 1) (words_behind ws) ≡ drop 1 (frames_in d ws)) × IsWhole (d - 1) (words_behind ws)
 popped zero ws some h = absurd (omega arith)
 popped (suc d) ws some h =
     let less : suc d - 1 ≡ d = omega arith in
     rw less (refl, h.1)
 
 -- the words behind the top frame in the store
-pub behind_in : (words : List ℕ) (top v : ℕ) → v ≡ get_or words (top + 2) v → top + 2 < length words → drop (top + (v + 4)) words ≡ behind (drop top words)
+pub behind_in : (words : List ℕ) (top v : ℕ) → v ≡ get_or words (top + 2) v → top + 2 < length words → drop (top + (v + 4)) words ≡ words_behind (drop top words)
 behind_in words top v is within =
     let at : get_or (drop top words) 2 0 ≡ v = get_or-drop top words 2 0 ∙ get_or_default words (top + 2) 0 v within ∙ sym is in
     let sum : top + (4 + v) ≡ top + (v + 4) = omega arith in

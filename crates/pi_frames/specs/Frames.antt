@@ -45,18 +45,18 @@ abbrev pub frame_in : List ℕ → Frame
 frame_in words = record { method = method_of (slice_index words 0); pc = slice_index words 1; regs = take (slice_index words 2) (drop 4 words) }
 
 -- the words behind those of the first frame
-abbrev pub behind : List ℕ → List ℕ
-behind words = drop (slice_index words 2) (drop 4 words)
+abbrev pub words_behind : List ℕ → List ℕ
+words_behind words = drop (slice_index words 2) (drop 4 words)
 
 -- so many frames in words, one behind the other
 abbrev pub frames_in : ℕ → List ℕ → List Frame
 frames_in zero words = []
-frames_in (suc depth) words = frame_in words ∷ frames_in depth (behind words)
+frames_in (suc depth) words = frame_in words ∷ frames_in depth (words_behind words)
 
 -- the words are those of so many frames, and no more
 abbrev pub IsWhole : ℕ → List ℕ → Type 0
 IsWhole zero words = length words ≡ 0
-IsWhole (suc depth) words = (slice_index words 2 + 4 ≤ length words) × IsWhole depth (behind words)
+IsWhole (suc depth) words = (slice_index words 2 + 4 ≤ length words) × IsWhole depth (words_behind words)
 
 -- the frames stand at the end of the store, the top one first
 pub record IsKept (words : List ℕ) (top depth : ℕ) : Type 0 where

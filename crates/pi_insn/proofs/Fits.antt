@@ -20,19 +20,21 @@ use Rattle.pi_insn.specs.declared.table.Payloads.{Payloads}
 use Rattle.pi_insn.specs.declared.table.Payloads.TheVariants as payloads
 use Rattle.pi_insn.specs.declared.table.Listing.{Listing}
 use Rattle.pi_insn.specs.declared.table.Listing.TheVariants as listing
+use Rattle.pi_model.specs.declared.insn.BinOp.{BinOp}
 use Rattle.pi_insn.specs.declared.raw.RawBody.{RawBody}
+use Rattle.pi_insn.specs.declared.raw.RawBody.TheVariants.{BinaryLit}
 use Rattle.pi_insn.specs.declared.raw.RawRegs.{RawRegs}
 use Rattle.pi_insn.specs.declared.raw.RawRegs.TheVariants.{Run}
 use Rattle.pi_insn.specs.Chain.{◌>>=◌}
-use Rattle.pi_insn.specs.Numbers.{signed, extended, below, bits, shortened, shifted, word, long}
+use Rattle.pi_insn.specs.Numbers.{signed_number, signed_extension, number_below, bits, short_bits, exact_quotient, word, long}
 use Rattle.pi_insn.specs.declared.raw.RawInsn.{RawInsn}
 use Rattle.pi_insn.specs.Table.{row_of, refuses}
-use Rattle.pi_insn.specs.Reading.{single_body, pair_body, triple_body, literal_body, high_body, named_body, named_pair_body, payload_body, listing_body, few, place, body_of, decoded}
-use Rattle.pi_insn.specs.Writing.{as_units, with_byte, with_pair, single_of, pair_of, triple_of, literal_of, high_of, named_of, named_pair_of, payload_of, listing_of, few_of, units_by, units_where, written}
+use Rattle.pi_insn.specs.Reading.{single_body, pair_body, triple_body, literal_body, high_body, named_body, named_pair_body, payload_body, listing_body, few, place, body_of, insn_in}
+use Rattle.pi_insn.specs.Writing.{as_units, with_byte, with_pair, single_of, pair_of, triple_of, literal_of, high_of, named_of, named_pair_of, payload_of, with_literal_of, listing_of, few_of, byte_alone, pair_alone, unit_behind, byte_and_unit, pair_and_unit, three_bytes, two_units_behind, word_behind, byte_and_word, units_by, units_where, encoding}
 use Rattle.pi_insn.proofs.Rounds.{read_there}
 
 -- numbers that fit
-below_ok : (limit n : ℕ) → n < limit → below limit n ≡ Some n
+below_ok : (limit n : ℕ) → n < limit → number_below limit n ≡ Some n
 below_ok limit n h = grind (arith, nat_tests)
 
 byte_ok : (op a : ℕ) → a < 256 → with_byte op a ≡ Some (op + 256 * a)
@@ -41,13 +43,13 @@ byte_ok op a h = ap (λ o. o >>= (λ a. Some (op + 256 * a))) (below_ok 256 a h)
 pair_ok : (op a b : ℕ) → a < 16 → b < 16 → with_pair op a b ≡ Some (op + 256 * a + 4096 * b)
 pair_ok op a b ha hb = rw (below_ok 16 a ha, below_ok 16 b hb) refl
 
-bits_ok : (half n : ℕ) → n < 2 * half → bits half (signed half n) ≡ Some n
+bits_ok : (half n : ℕ) → n < 2 * half → bits half (signed_number half n) ≡ Some n
 bits_ok half n h = grind (arith, nat_tests)
 
-shortened_ok : (half range n : ℕ) → 2 * half ≤ range → n < 2 * half → shortened half range (extended half range n) ≡ Some n
+shortened_ok : (half range n : ℕ) → 2 * half ≤ range → n < 2 * half → short_bits half range (signed_extension half range n) ≡ Some n
 shortened_ok half range n fits h = grind (arith, nat_tests)
 
-shifted_ok : (unit n : ℕ) → 0 < unit → shifted unit (n * unit) ≡ Some n
+shifted_ok : (unit n : ℕ) → 0 < unit → exact_quotient unit (n * unit) ≡ Some n
 shifted_ok unit n some = grind (arith, nat_tests)
 
 -- units that are units
@@ -99,9 +101,9 @@ named_pair_is named_pair.NewArray a b i = refl
 named_pair_is (named_pair.Iget k) a b i = refl
 named_pair_is (named_pair.Iput k) a b i = refl
 
-payload_is : (w : Payloads) (a n : ℕ) → payload_of (payload_body w a n) ≡ Some (a, signed 2147483648 n)
-payload_is payloads.FillArray a n = refl
-payload_is payloads.Switch a n = refl
+payload_is : (w : Payloads) (a n : ℕ) → n < 4294967296 → payload_of 2147483648 (payload_body w a n) ≡ Some (a, n)
+payload_is payloads.FillArray a n h = ap (λ o. o >>= (λ n. Some (a, n))) (bits_ok 2147483648 n (omega arith))
+payload_is payloads.Switch a n h = ap (λ o. o >>= (λ n. Some (a, n))) (bits_ok 2147483648 n (omega arith))
 
 listing_is : (w : Listing) (i : ℕ) (regs : RawRegs) → listing_of (listing_body w i regs) ≡ Some (i, regs)
 listing_is listing.Filled i regs = refl
@@ -110,6 +112,10 @@ listing_is (listing.Invoke how) i regs = refl
 literal_is : (w : Literal) (half a n : ℕ) → half ≤ 2 ^ 31 → n < 2 * half → literal_of half (literal_body w a half n) ≡ Some (a, n)
 literal_is literal.Int half a n few h = ap (λ o. o >>= (λ n. Some (a, n))) (shortened_ok half (2 ^ 32) n (omega arith) h)
 literal_is literal.Long half a n few h = ap (λ o. o >>= (λ n. Some (a, n))) (shortened_ok half (2 ^ 64) n (omega arith) h)
+
+short_literal_is : (k : BinOp) (half a b n : ℕ) → half ≤ 2 ^ 31 → n < 2 * half
+    → with_literal_of half (BinaryLit k a b (signed_extension half (2 ^ 32) n)) ≡ Some (a, b, n)
+short_literal_is k half a b n few h = ap (λ o. o >>= (λ n. Some (a, b, n))) (shortened_ok half (2 ^ 32) n (omega arith) h)
 
 high_is : (w : Literal) (a n : ℕ) → high_of (high_body w a n) ≡ Some (a, n)
 high_is literal.Int a n = ap (λ o. o >>= (λ n. Some (a, n))) (shifted_ok (2 ^ 16) n (omega arith))
@@ -138,87 +144,102 @@ top_less : (a b c d : ℕ) → a < 65536 → b < 65536 → c < 65536 → d < 655
     → (a + 65536 * b + 4294967296 * (c + 65536 * d)) / 281474976710656 < 65536
 top_less a b c d ha hb hc hd = omega arith
 
+-- the shapes of the units, where the operands fit
+module _ (op : ℕ) (ho : op < 256) where
+  byte_alone_fits : (o : Option ℕ) (a : ℕ) → o ≡ Some a → a < 256 → IsSome (byte_alone op o)
+  byte_alone_fits o a is ha =
+      let u : op + 256 * a < 65536 = omega arith in
+      rw (is, byte_ok op a ha, one_ok (op + 256 * a) u) refl
+
+  pair_alone_fits : (o : Option (ℕ × ℕ)) (a b : ℕ) → o ≡ Some (a, b) → a < 16 → b < 16 → IsSome (pair_alone op o)
+  pair_alone_fits o a b is ha hb =
+      let u : op + 256 * a + 4096 * b < 65536 = omega arith in
+      rw (is, pair_ok op a b ha hb, one_ok (op + 256 * a + 4096 * b) u) refl
+
+  unit_behind_fits : (o : Option ℕ) (n : ℕ) → o ≡ Some n → n < 65536 → IsSome (unit_behind op o)
+  unit_behind_fits o n is hn = rw (is, two_ok op n (omega arith) hn) refl
+
+  byte_and_unit_fits : (o : Option (ℕ × ℕ)) (a n : ℕ) → o ≡ Some (a, n) → a < 256 → n < 65536 → IsSome (byte_and_unit op o)
+  byte_and_unit_fits o a n is ha hn =
+      let u : op + 256 * a < 65536 = omega arith in
+      rw (is, byte_ok op a ha, two_ok (op + 256 * a) n u hn) refl
+
+  pair_and_unit_fits : (o : Option (ℕ × ℕ × ℕ)) (a b n : ℕ) → o ≡ Some (a, b, n) → a < 16 → b < 16 → n < 65536 → IsSome (pair_and_unit op o)
+  pair_and_unit_fits o a b n is ha hb hn =
+      let u : op + 256 * a + 4096 * b < 65536 = omega arith in
+      rw (is, pair_ok op a b ha hb, two_ok (op + 256 * a + 4096 * b) n u hn) refl
+
+  three_bytes_fit : (o : Option (ℕ × ℕ × ℕ)) (a b c : ℕ) → o ≡ Some (a, b, c) → a < 256 → b < 256 → c < 256 → IsSome (three_bytes op o)
+  three_bytes_fit o a b c is ha hb hc =
+      let u : op + 256 * a < 65536 = omega arith in
+      let v : b + 256 * c < 65536 = omega arith in
+      rw (is, byte_ok op a ha, below_ok 256 b hb, below_ok 256 c hc, two_ok (op + 256 * a) (b + 256 * c) u v) refl
+
+  two_units_behind_fit : (o : Option (ℕ × ℕ)) (a b : ℕ) → o ≡ Some (a, b) → a < 65536 → b < 65536 → IsSome (two_units_behind op o)
+  two_units_behind_fit o a b is ha hb = rw (is, three_ok op a b (omega arith) ha hb) refl
+
+  word_behind_fits : (o : Option ℕ) (n : ℕ) → o ≡ Some n → n < 4294967296 → IsSome (word_behind op o)
+  word_behind_fits o n is hn = rw (is, three_ok op (n % 65536) (n / 65536) (omega arith) (omega arith) (omega arith)) refl
+
+  byte_and_word_fits : (o : Option (ℕ × ℕ)) (a n : ℕ) → o ≡ Some (a, n) → a < 256 → n < 4294967296 → IsSome (byte_and_word op o)
+  byte_and_word_fits o a n is ha hn =
+      let u : op + 256 * a < 65536 = omega arith in
+      rw (is, byte_ok op a ha, three_ok (op + 256 * a) (n % 65536) (n / 65536) u (omega arith) (omega arith)) refl
+
+-- the bits of a distance that was read
+distance_is : {A : Type 0} (half n : ℕ) (f : ℕ → A) → n < 2 * half → (bits half (signed_number half n) >>= (λ n. Some (f n))) ≡ Some (f n)
+distance_is half n f h = ap (λ o. o >>= (λ n. Some (f n))) (bits_ok half n h)
+
 pub writable : (row : Row) (op high : ℕ) (rest : List ℕ) → op < 256 → high < 256 → ((k : ℕ) → slice_index rest k < 65536)
     → refuses row high ≡ false → IsSome (units_by row op (body_of row high rest))
 writable (F10x w) op high rest ho hh hr e = rw (one_ok op (omega arith)) refl
-writable (F12x w) op high rest ho hh hr e =
-    let u : op + 256 * (high % 16) + 4096 * (high / 16) < 65536 = omega arith in
-    rw (pair_is w (high % 16) (high / 16), pair_ok op (high % 16) (high / 16) (omega arith) (omega arith), one_ok (op + 256 * (high % 16) + 4096 * (high / 16)) u) refl
+writable (F12x w) op high rest ho hh hr e = pair_alone_fits op ho _ _ _ (pair_is w (high % 16) (high / 16)) (omega arith) (omega arith)
 writable F11n op high rest ho hh hr e =
-    let u : op + 256 * (high % 16) + 4096 * (high / 16) < 65536 = omega arith in
-    rw (literal_is literal.Int 8 (high % 16) (high / 16) (omega arith) (omega arith), pair_ok op (high % 16) (high / 16) (omega arith) (omega arith), one_ok (op + 256 * (high % 16) + 4096 * (high / 16)) u) refl
-writable (F11x w) op high rest ho hh hr e =
-    let u : op + 256 * high < 65536 = omega arith in
-    rw (single_is w high, byte_ok op high hh, one_ok (op + 256 * high) u) refl
-writable F10t op high rest ho hh hr e =
-    let u : op + 256 * high < 65536 = omega arith in
-    rw (bits_ok 128 high (omega arith), byte_ok op high hh, one_ok (op + 256 * high) u) refl
+    pair_alone_fits op ho _ _ _ (literal_is literal.Int 8 (high % 16) (high / 16) (omega arith) (omega arith)) (omega arith) (omega arith)
+writable (F11x w) op high rest ho hh hr e = byte_alone_fits op ho _ _ (single_is w high) hh
+writable F10t op high rest ho hh hr e = byte_alone_fits op ho _ _ (bits_ok 128 high (omega arith)) hh
 writable F20t op high rest ho hh hr e =
-    let h0 = hr 0 in
-    rw (bits_ok 32768 (slice_index rest 0) (omega arith), two_ok op (slice_index rest 0) (omega arith) h0) refl
-writable (F22x k) op high rest ho hh hr e =
-    let h0 = hr 0 in
-    let u : op + 256 * high < 65536 = omega arith in
-    rw (byte_ok op high hh, two_ok (op + 256 * high) (slice_index rest 0) u h0) refl
+    let h = hr 0 in
+    unit_behind_fits op ho _ _ (bits_ok 32768 (slice_index rest 0) (omega arith)) h
+writable (F22x k) op high rest ho hh hr e = byte_and_unit_fits op ho _ high (slice_index rest 0) refl hh (hr 0)
 writable (F21t c) op high rest ho hh hr e =
-    let h0 = hr 0 in
-    let u : op + 256 * high < 65536 = omega arith in
-    rw (bits_ok 32768 (slice_index rest 0) (omega arith), byte_ok op high hh, two_ok (op + 256 * high) (slice_index rest 0) u h0) refl
+    let h = hr 0 in
+    byte_and_unit_fits op ho _ high _ (distance_is 32768 (slice_index rest 0) (λ n. (high, n)) (omega arith)) hh h
 writable (F21s w) op high rest ho hh hr e =
-    let h0 = hr 0 in
-    let u : op + 256 * high < 65536 = omega arith in
-    rw (literal_is w 32768 high (slice_index rest 0) (omega arith) (omega arith), byte_ok op high hh, two_ok (op + 256 * high) (slice_index rest 0) u h0) refl
-writable (F21h w) op high rest ho hh hr e =
-    let h0 = hr 0 in
-    let u : op + 256 * high < 65536 = omega arith in
-    rw (high_is w high (slice_index rest 0), byte_ok op high hh, two_ok (op + 256 * high) (slice_index rest 0) u h0) refl
-writable (F21c w) op high rest ho hh hr e =
-    let h0 = hr 0 in
-    let u : op + 256 * high < 65536 = omega arith in
-    rw (named_is w high (slice_index rest 0), byte_ok op high hh, two_ok (op + 256 * high) (slice_index rest 0) u h0) refl
+    let h = hr 0 in
+    byte_and_unit_fits op ho _ _ _ (literal_is w 32768 high (slice_index rest 0) (omega arith) (omega arith)) hh h
+writable (F21h w) op high rest ho hh hr e = byte_and_unit_fits op ho _ _ _ (high_is w high (slice_index rest 0)) hh (hr 0)
+writable (F21c w) op high rest ho hh hr e = byte_and_unit_fits op ho _ _ _ (named_is w high (slice_index rest 0)) hh (hr 0)
 writable (F23x w) op high rest ho hh hr e =
-    let h0 = hr 0 in
-    let u : op + 256 * high < 65536 = omega arith in
-    let v : slice_index rest 0 % 256 + 256 * (slice_index rest 0 / 256) < 65536 = omega arith in
-    rw (triple_is w high (slice_index rest 0 % 256) (slice_index rest 0 / 256), byte_ok op high hh, below_ok 256 (slice_index rest 0 % 256) (omega arith), below_ok 256 (slice_index rest 0 / 256) (omega arith), two_ok (op + 256 * high) (slice_index rest 0 % 256 + 256 * (slice_index rest 0 / 256)) u v) refl
+    let h = hr 0 in
+    three_bytes_fit op ho _ _ _ _ (triple_is w high (slice_index rest 0 % 256) (slice_index rest 0 / 256)) hh (omega arith) (omega arith)
 writable (F22b k) op high rest ho hh hr e =
-    let h0 = hr 0 in
-    let u : op + 256 * high < 65536 = omega arith in
-    let v : slice_index rest 0 % 256 + 256 * (slice_index rest 0 / 256) < 65536 = omega arith in
-    rw (shortened_ok 128 (2 ^ 32) (slice_index rest 0 / 256) (omega arith) (omega arith), byte_ok op high hh, below_ok 256 (slice_index rest 0 % 256) (omega arith), two_ok (op + 256 * high) (slice_index rest 0 % 256 + 256 * (slice_index rest 0 / 256)) u v) refl
+    let h = hr 0 in
+    three_bytes_fit op ho _ _ _ _ (short_literal_is k 128 high (slice_index rest 0 % 256) (slice_index rest 0 / 256) (omega arith) (omega arith)) hh (omega arith) (omega arith)
 writable (F22t c) op high rest ho hh hr e =
-    let h0 = hr 0 in
-    let u : op + 256 * (high % 16) + 4096 * (high / 16) < 65536 = omega arith in
-    rw (bits_ok 32768 (slice_index rest 0) (omega arith), pair_ok op (high % 16) (high / 16) (omega arith) (omega arith), two_ok (op + 256 * (high % 16) + 4096 * (high / 16)) (slice_index rest 0) u h0) refl
+    let h = hr 0 in
+    pair_and_unit_fits op ho _ (high % 16) (high / 16) _ (distance_is 32768 (slice_index rest 0) (λ n. (high % 16, high / 16, n)) (omega arith)) (omega arith) (omega arith) h
 writable (F22s k) op high rest ho hh hr e =
-    let h0 = hr 0 in
-    let u : op + 256 * (high % 16) + 4096 * (high / 16) < 65536 = omega arith in
-    rw (shortened_ok 32768 (2 ^ 32) (slice_index rest 0) (omega arith) (omega arith), pair_ok op (high % 16) (high / 16) (omega arith) (omega arith), two_ok (op + 256 * (high % 16) + 4096 * (high / 16)) (slice_index rest 0) u h0) refl
+    let h = hr 0 in
+    pair_and_unit_fits op ho _ _ _ _ (short_literal_is k 32768 (high % 16) (high / 16) (slice_index rest 0) (omega arith) (omega arith)) (omega arith) (omega arith) h
 writable (F22c w) op high rest ho hh hr e =
-    let h0 = hr 0 in
-    let u : op + 256 * (high % 16) + 4096 * (high / 16) < 65536 = omega arith in
-    rw (named_pair_is w (high % 16) (high / 16) (slice_index rest 0), pair_ok op (high % 16) (high / 16) (omega arith) (omega arith), two_ok (op + 256 * (high % 16) + 4096 * (high / 16)) (slice_index rest 0) u h0) refl
+    pair_and_unit_fits op ho _ _ _ _ (named_pair_is w (high % 16) (high / 16) (slice_index rest 0)) (omega arith) (omega arith) (hr 0)
 writable F30t op high rest ho hh hr e =
     let n = word_less (slice_index rest 0) (slice_index rest 1) (hr 0) (hr 1) in
-    rw (bits_ok 2147483648 (word rest 0) (omega arith), three_ok op (word rest 0 % 65536) (word rest 0 / 65536) (omega arith) (omega arith) (omega arith)) refl
-writable (F32x k) op high rest ho hh hr e =
-    rw (three_ok op (slice_index rest 0) (slice_index rest 1) (omega arith) (hr 0) (hr 1)) refl
+    word_behind_fits op ho _ _ (bits_ok 2147483648 (word rest 0) (omega arith)) n
+writable (F32x k) op high rest ho hh hr e = two_units_behind_fit op ho _ (slice_index rest 0) (slice_index rest 1) refl (hr 0) (hr 1)
 writable (F31i w) op high rest ho hh hr e =
     let n = word_less (slice_index rest 0) (slice_index rest 1) (hr 0) (hr 1) in
-    let u : op + 256 * high < 65536 = omega arith in
-    rw (literal_is w 2147483648 high (word rest 0) (omega arith) (omega arith), byte_ok op high hh, three_ok (op + 256 * high) (word rest 0 % 65536) (word rest 0 / 65536) u (omega arith) (omega arith)) refl
+    byte_and_word_fits op ho _ _ _ (literal_is w 2147483648 high (word rest 0) (omega arith) (omega arith)) hh n
 writable (F31t w) op high rest ho hh hr e =
     let n = word_less (slice_index rest 0) (slice_index rest 1) (hr 0) (hr 1) in
-    let u : op + 256 * high < 65536 = omega arith in
-    rw (payload_is w high (word rest 0), bits_ok 2147483648 (word rest 0) (omega arith), byte_ok op high hh, three_ok (op + 256 * high) (word rest 0 % 65536) (word rest 0 / 65536) u (omega arith) (omega arith)) refl
+    byte_and_word_fits op ho _ _ _ (payload_is w high (word rest 0) n) hh n
 writable F31c op high rest ho hh hr e =
-    let n = word_less (slice_index rest 0) (slice_index rest 1) (hr 0) (hr 1) in
-    let u : op + 256 * high < 65536 = omega arith in
-    rw (byte_ok op high hh, three_ok (op + 256 * high) (word rest 0 % 65536) (word rest 0 / 65536) u (omega arith) (omega arith)) refl
+    byte_and_word_fits op ho _ high (word rest 0) refl hh (word_less (slice_index rest 0) (slice_index rest 1) (hr 0) (hr 1))
 writable (F35c w) op high rest ho hh hr e =
-    let h1 = hr 1 in
     let n = high / 16 in
     let u = slice_index rest 1 in
+    let h1 = hr 1 in
     rw (listing_is w (slice_index rest 0) (few high (slice_index rest 1))) (few_ok op (slice_index rest 0) (high / 16)
     (place n 0 (u % 16)) (place n 1 (u / 16 % 16)) (place n 2 (u / 256 % 16)) (place n 3 (u / 4096)) (place n 4 (high % 16))
     ho (hr 0) (five_at_most high e)
@@ -237,12 +258,12 @@ fits_where o row op body e h =
     let P : Option Row → Type 0 = λ o. IsSome (units_where o op body) in
     subst P (sym e) h
 
-pub read_fits : (units : List ℕ) (i : RawInsn) (n : ℕ) → ((k : ℕ) → slice_index units k < 65536) → decoded units ≡ Ok (i, n) → IsSome (written i)
-unfolding written
+pub read_fits : (units : List ℕ) (i : RawInsn) (n : ℕ) → ((k : ℕ) → slice_index units k < 65536) → insn_in units ≡ Ok (i, n) → IsSome (encoding i)
+unfolding encoding
 read_fits [] i n fits e = cc
 read_fits (unit ∷ rest) i n fits e =
     let r = read_there (unit % 256) (row_of (unit % 256)) (unit / 256) rest i n e in
     let first = fits 0 in
-    let P : RawInsn → Type 0 = λ j. IsSome (written j) in
+    let P : RawInsn → Type 0 = λ j. IsSome (encoding j) in
     subst P r.1.2 (fits_where (row_of (unit % 256)) r.0 (unit % 256) (body_of r.0 (unit / 256) rest) r.1.0
     (writable r.0 (unit % 256) (unit / 256) rest (omega arith) (omega arith) (λ k. fits (suc k)) r.1.1))

@@ -1,135 +1,30 @@
--- What is written is read again: the formats with more operands, and then each of them by the row of the opcode.
-use Rattle.std.proofs.Common.{◌≡◌, ℕ, ◌+◌, ◌*◌, ◌/◌, ◌%◌, ◌<◌, ◌≤◌, false, nat_lt, List, [], ◌∷◌, slice_index, Option, Some, pos, refl, sym, ◌∙◌, ap, subst, arith}
+-- What is written is read again: the formats with a list of registers or a long, and then each by the row of the opcode.
+use Rattle.std.proofs.Common.{◌≡◌, ℕ, ◌+◌, ◌*◌, ◌/◌, ◌%◌, ◌<◌, ◌≤◌, false, nat_lt, List, [], ◌∷◌, slice_index, Option, Some, refl, sym, ◌∙◌, ap, subst, arith}
 use Rattle.std.proofs.lemmas.Bool.Decides.{nat_tests}
-use Rattle.pi_insn.specs.declared.table.Row.TheVariants.{F23x, F22b, F22t, F22s, F22c, F35c, F3rc, F51l}
-use Rattle.pi_model.specs.declared.insn.Cond.{Cond}
-use Rattle.pi_model.specs.declared.insn.BinOp.{BinOp}
-use Rattle.pi_insn.specs.declared.table.Triple.{Triple}
-use Rattle.pi_insn.specs.declared.table.NamedPair.{NamedPair}
+use Rattle.pi_insn.specs.declared.table.Row.{Row}
+use Rattle.pi_insn.specs.declared.table.Row.TheVariants.{F10x, F12x, F11n, F11x, F10t, F20t, F22x, F21t, F21s, F21h, F21c, F23x, F22b, F22t, F22s, F22c, F30t, F32x, F31i, F31t, F31c, F35c, F3rc, F51l}
+use Rattle.pi_insn.specs.declared.table.Pair.TheVariants as pair
+use Rattle.pi_insn.specs.declared.table.Literal.TheVariants as literal
+use Rattle.pi_insn.specs.declared.table.Named.TheVariants as named
 use Rattle.pi_insn.specs.declared.table.Listing.{Listing}
 use Rattle.pi_insn.specs.declared.table.Listing.TheVariants as listing
 use Rattle.pi_insn.specs.declared.raw.RawBody.{RawBody}
-use Rattle.pi_insn.specs.declared.raw.RawBody.TheVariants.{ConstWide, If, BinaryLit}
+use Rattle.pi_insn.specs.declared.raw.RawBody.TheVariants.{ConstWide}
 use Rattle.pi_insn.specs.declared.raw.RawRegs.{RawRegs}
 use Rattle.pi_insn.specs.declared.raw.RawRegs.TheVariants.{Few, Run}
 use Rattle.pi_insn.specs.Chain.{◌>>=◌}
-use Rattle.pi_insn.specs.Numbers.{below, bits}
-use Rattle.pi_insn.specs.Reading.{triple_body, named_pair_body, listing_body, few, place}
-use Rattle.pi_insn.specs.Writing.{as_units, with_byte, with_pair, with_unit, triple_of, named_pair_of, compare_of, with_literal_of, listing_of, few_of, few_units, run_units, units_23x, units_22b, units_22t, units_22s, units_22c, units_35c, units_3rc, units_51l, without_operands, zero_regs, AreFew, NamesFew}
-use Rattle.pi_insn.proofs.Steps.{bind_some, below_some, units_some, byte_some, pair_some, bits_some}
-use Rattle.pi_insn.proofs.Bodies.{from_triple, from_named_pair, from_listing, from_with_literal, from_compare}
-use Rattle.pi_insn.proofs.Again.{Says, unit_some, lower, upper, head}
-
-pub again_22t : (c : Cond) (op : ℕ) (body : RawBody) (units rest : List ℕ) → units_22t op body ≡ Some units
-    → without_operands body ≡ If c 0 0 (pos 0) → Says (F22t c) op body units rest
-again_22t c op body units rest e h =
-    let o = bind_some (compare_of body) (λ p. bits 32768 p.2 >>= (λ n. with_unit (with_pair op p.0 p.1) n)) units e in
-    let n = bind_some (bits 32768 o.0.2) (λ n. with_unit (with_pair op o.0.0 o.0.1) n) units o.1.1 in
-    let b = bits_some 32768 o.0.2 n.0 n.1.0 in
-    let u = unit_some (with_pair op o.0.0 o.0.1) n.0 units n.1.1 in
-    let f = pair_some op o.0.0 o.0.1 u.0 u.1.0 in
-    record {
-      high = o.0.0 + 16 * o.0.1;
-      tail = n.0 ∷ [];
-      are = head u.0 (op + 256 * (o.0.0 + 16 * o.0.1)) units (n.0 ∷ []) u.1.1 f.2;
-      passes = refl;
-      whole = refl;
-      body_is = rw (lower o.0.0 o.0.1 f.0, upper o.0.0 o.0.1 f.0) (ap (If c o.0.0 o.0.1) b.0 ∙ from_compare c body o.0 h o.1.0);
-    }
-
-pub again_22s : (k : BinOp) (op : ℕ) (body : RawBody) (units rest : List ℕ) → units_22s op body ≡ Some units
-    → without_operands body ≡ BinaryLit k 0 0 0 → Says (F22s k) op body units rest
-again_22s k op body units rest e h =
-    let o = bind_some (with_literal_of 32768 body) (λ p. with_unit (with_pair op p.0 p.1) p.2) units e in
-    let u = unit_some (with_pair op o.0.0 o.0.1) o.0.2 units o.1.1 in
-    let f = pair_some op o.0.0 o.0.1 u.0 u.1.0 in
-    record {
-      high = o.0.0 + 16 * o.0.1;
-      tail = o.0.2 ∷ [];
-      are = head u.0 (op + 256 * (o.0.0 + 16 * o.0.1)) units (o.0.2 ∷ []) u.1.1 f.2;
-      passes = refl;
-      whole = refl;
-      body_is = rw (lower o.0.0 o.0.1 f.0, upper o.0.0 o.0.1 f.0) ((from_with_literal 32768 k body o.0 (omega arith) h o.1.0).0);
-    }
-
-pub again_22c : (w : NamedPair) (op : ℕ) (body : RawBody) (units rest : List ℕ) → units_22c op body ≡ Some units
-    → without_operands body ≡ without_operands (named_pair_body w 0 0 0) → Says (F22c w) op body units rest
-again_22c w op body units rest e h =
-    let o = bind_some (named_pair_of body) (λ p. with_unit (with_pair op p.0 p.1) p.2) units e in
-    let u = unit_some (with_pair op o.0.0 o.0.1) o.0.2 units o.1.1 in
-    let f = pair_some op o.0.0 o.0.1 u.0 u.1.0 in
-    record {
-      high = o.0.0 + 16 * o.0.1;
-      tail = o.0.2 ∷ [];
-      are = head u.0 (op + 256 * (o.0.0 + 16 * o.0.1)) units (o.0.2 ∷ []) u.1.1 f.2;
-      passes = refl;
-      whole = refl;
-      body_is = rw (lower o.0.0 o.0.1 f.0, upper o.0.0 o.0.1 f.0) (from_named_pair w body o.0 h o.1.0);
-    }
-
--- the two bytes of a unit
-low_byte : (b c : ℕ) → b < 256 → (b + 256 * c) % 256 ≡ b
-low_byte b c h = omega arith
-
-high_byte : (b c : ℕ) → b < 256 → (b + 256 * c) / 256 ≡ c
-high_byte b c h = omega arith
-
-same_bytes : (u b x c y : ℕ) (units : List ℕ) → x ≡ b → y ≡ c → units ≡ u ∷ (x + 256 * y) ∷ [] → units ≡ u ∷ (b + 256 * c) ∷ []
-same_bytes u b x c y units same like e = cc
-
-two_bytes : (u b c : ℕ) (units : List ℕ) → (below 256 b >>= (λ b. below 256 c >>= (λ c. as_units (u ∷ (b + 256 * c) ∷ [])))) ≡ Some units
-    → (b < 256) × (units ≡ u ∷ (b + 256 * c) ∷ [])
-two_bytes u b c units e =
-    let x = bind_some (below 256 b) (λ b. below 256 c >>= (λ c. as_units (u ∷ (b + 256 * c) ∷ []))) units e in
-    let fx = below_some 256 b x.0 x.1.0 in
-    let y = bind_some (below 256 c) (λ c. as_units (u ∷ (x.0 + 256 * c) ∷ [])) units x.1.1 in
-    let fy = below_some 256 c y.0 y.1.0 in
-    (fx.0, same_bytes u b x.0 c y.0 units fx.1 fy.1 (units_some (u ∷ (x.0 + 256 * y.0) ∷ []) units y.1.1))
-
-one_byte : (u b c : ℕ) (units : List ℕ) → (below 256 b >>= (λ b. as_units (u ∷ (b + 256 * c) ∷ []))) ≡ Some units
-    → (b < 256) × (units ≡ u ∷ (b + 256 * c) ∷ [])
-one_byte u b c units e =
-    let x = bind_some (below 256 b) (λ b. as_units (u ∷ (b + 256 * c) ∷ [])) units e in
-    let fx = below_some 256 b x.0 x.1.0 in
-    (fx.0, same_bytes u b x.0 c c units fx.1 refl (units_some (u ∷ (x.0 + 256 * c) ∷ []) units x.1.1))
-
-pub again_23x : (w : Triple) (op : ℕ) (body : RawBody) (units rest : List ℕ) → units_23x op body ≡ Some units
-    → without_operands body ≡ without_operands (triple_body w 0 0 0) → Says (F23x w) op body units rest
-again_23x w op body units rest e h =
-    let o = bind_some (triple_of body) (λ p. with_byte op p.0 >>= (λ u. below 256 p.1 >>= (λ b. below 256 p.2 >>= (λ c. as_units (u ∷ (b + 256 * c) ∷ []))))) units e in
-    let u = bind_some (with_byte op o.0.0) (λ u. below 256 o.0.1 >>= (λ b. below 256 o.0.2 >>= (λ c. as_units (u ∷ (b + 256 * c) ∷ [])))) units o.1.1 in
-    let f = byte_some op o.0.0 u.0 u.1.0 in
-    let b = two_bytes u.0 o.0.1 o.0.2 units u.1.1 in
-    record {
-      high = o.0.0;
-      tail = (o.0.1 + 256 * o.0.2) ∷ [];
-      are = head u.0 (op + 256 * o.0.0) units ((o.0.1 + 256 * o.0.2) ∷ []) b.1 f.1;
-      passes = refl;
-      whole = refl;
-      body_is = rw (low_byte o.0.1 o.0.2 b.0, high_byte o.0.1 o.0.2 b.0) (from_triple w body o.0 h o.1.0);
-    }
-
-pub again_22b : (k : BinOp) (op : ℕ) (body : RawBody) (units rest : List ℕ) → units_22b op body ≡ Some units
-    → without_operands body ≡ BinaryLit k 0 0 0 → Says (F22b k) op body units rest
-again_22b k op body units rest e h =
-    let o = bind_some (with_literal_of 128 body) (λ p. with_byte op p.0 >>= (λ u. below 256 p.1 >>= (λ b. as_units (u ∷ (b + 256 * p.2) ∷ [])))) units e in
-    let u = bind_some (with_byte op o.0.0) (λ u. below 256 o.0.1 >>= (λ b. as_units (u ∷ (b + 256 * o.0.2) ∷ []))) units o.1.1 in
-    let f = byte_some op o.0.0 u.0 u.1.0 in
-    let b = one_byte u.0 o.0.1 o.0.2 units u.1.1 in
-    record {
-      high = o.0.0;
-      tail = (o.0.1 + 256 * o.0.2) ∷ [];
-      are = head u.0 (op + 256 * o.0.0) units ((o.0.1 + 256 * o.0.2) ∷ []) b.1 f.1;
-      passes = refl;
-      whole = refl;
-      body_is = rw (low_byte o.0.1 o.0.2 b.0, high_byte o.0.1 o.0.2 b.0) ((from_with_literal 128 k body o.0 (omega arith) h o.1.0).0);
-    }
+use Rattle.pi_insn.specs.Numbers.{number_below}
+use Rattle.pi_insn.specs.Reading.{listing_body, few, place, body_of}
+use Rattle.pi_insn.specs.Writing.{as_units, with_byte, listing_of, few_of, few_units, run_units, units_35c, units_3rc, units_51l, units_by, without_operands, zero_regs, AreFew, NamesFew}
+use Rattle.pi_insn.proofs.Steps.{bind_some, below_some, units_some, byte_some}
+use Rattle.pi_insn.proofs.Bodies.{from_plain, from_single, from_pair, from_triple, from_named, from_named_pair, from_listing, from_literal, from_high, from_with_literal, from_goto, from_test, from_compare, from_payload}
+use Rattle.pi_insn.proofs.Again.{Says, lower, upper, low_byte, high_byte, word_again, head, byte_alone_says, pair_alone_says, unit_behind_says, byte_and_unit_says, pair_and_unit_says, three_bytes_say, two_units_behind_say, word_behind_says, byte_and_word_says}
 
 -- a 64-bit number and its units
 long_again : (n : ℕ) → n % 65536 + 65536 * (n / 65536 % 65536) + 4294967296 * (n / 4294967296 % 65536 + 65536 * (n / 281474976710656)) ≡ n
 long_again n = omega arith
 
-pub again_51l : (op : ℕ) (body : RawBody) (units rest : List ℕ) → units_51l op body ≡ Some units
+again_51l : (op : ℕ) (body : RawBody) (units rest : List ℕ) → units_51l op body ≡ Some units
     → without_operands body ≡ ConstWide 0 0 → Says F51l op body units rest
 again_51l op (ConstWide a v) units rest e h =
     let tail : List ℕ = v % 65536 ∷ v / 65536 % 65536 ∷ v / 4294967296 % 65536 ∷ v / 281474976710656 ∷ [] in
@@ -154,7 +49,7 @@ again_run op i (Run first n) units e h =
     (first, n, (refl, head u.0 (op + 256 * n) units (i ∷ first ∷ []) (units_some (u.0 ∷ i ∷ first ∷ []) units u.1.1) f.1))
 again_run op i (Few n regs) units e h = cc
 
-pub again_3rc : (w : Listing) (op : ℕ) (body : RawBody) (units rest : List ℕ) → units_3rc op body ≡ Some units
+again_3rc : (w : Listing) (op : ℕ) (body : RawBody) (units rest : List ℕ) → units_3rc op body ≡ Some units
     → without_operands body ≡ without_operands (listing_body w 0 (Run 0 0)) → Says (F3rc w) op body units rest
 again_3rc w op body units rest e h =
     let o = bind_some (listing_of body) (λ p. run_units op p.0 p.1) units e in
@@ -195,20 +90,20 @@ record Five (op i n c d e f g : ℕ) (units : List ℕ) : Type 0 where
   are : units ≡ (op + 256 * (g + 16 * n)) ∷ i ∷ (c + 16 * d + 256 * e + 4096 * f) ∷ []
 
 -- a number that passes a limit goes on as it is
-passed : {B : Type 0} (limit n : ℕ) (f : ℕ → Option B) (y : B) → (below limit n >>= f) ≡ Some y → (n < limit) × (f n ≡ Some y)
+passed : {B : Type 0} (limit n : ℕ) (f : ℕ → Option B) (y : B) → (number_below limit n >>= f) ≡ Some y → (n < limit) × (f n ≡ Some y)
 passed limit n f y e =
-    let found = bind_some (below limit n) f y e in
+    let found = bind_some (number_below limit n) f y e in
     let fits = below_some limit n found.0 found.1.0 in
     let P : ℕ → Type 0 = λ x. f x ≡ Some y in
     (fits.0, subst P fits.1 found.1.1)
 
 five_some : (op i n c d e f g : ℕ) (units : List ℕ) → few_of op i n (c ∷ d ∷ e ∷ f ∷ g ∷ []) ≡ Some units → Five op i n c d e f g units
 five_some op i n c d e f g units is =
-    let pn = passed 6 n (λ n. below 16 c >>= (λ c. below 16 d >>= (λ d. below 16 e >>= (λ e. below 16 f >>= (λ f. below 16 g >>= (λ g. as_units ((op + 256 * (g + 16 * n)) ∷ i ∷ (c + 16 * d + 256 * e + 4096 * f) ∷ []))))))) units is in
-    let pc = passed 16 c (λ c. below 16 d >>= (λ d. below 16 e >>= (λ e. below 16 f >>= (λ f. below 16 g >>= (λ g. as_units ((op + 256 * (g + 16 * n)) ∷ i ∷ (c + 16 * d + 256 * e + 4096 * f) ∷ [])))))) units pn.1 in
-    let pd = passed 16 d (λ d. below 16 e >>= (λ e. below 16 f >>= (λ f. below 16 g >>= (λ g. as_units ((op + 256 * (g + 16 * n)) ∷ i ∷ (c + 16 * d + 256 * e + 4096 * f) ∷ []))))) units pc.1 in
-    let pe = passed 16 e (λ e. below 16 f >>= (λ f. below 16 g >>= (λ g. as_units ((op + 256 * (g + 16 * n)) ∷ i ∷ (c + 16 * d + 256 * e + 4096 * f) ∷ [])))) units pd.1 in
-    let pf = passed 16 f (λ f. below 16 g >>= (λ g. as_units ((op + 256 * (g + 16 * n)) ∷ i ∷ (c + 16 * d + 256 * e + 4096 * f) ∷ []))) units pe.1 in
+    let pn = passed 6 n (λ n. number_below 16 c >>= (λ c. number_below 16 d >>= (λ d. number_below 16 e >>= (λ e. number_below 16 f >>= (λ f. number_below 16 g >>= (λ g. as_units ((op + 256 * (g + 16 * n)) ∷ i ∷ (c + 16 * d + 256 * e + 4096 * f) ∷ []))))))) units is in
+    let pc = passed 16 c (λ c. number_below 16 d >>= (λ d. number_below 16 e >>= (λ e. number_below 16 f >>= (λ f. number_below 16 g >>= (λ g. as_units ((op + 256 * (g + 16 * n)) ∷ i ∷ (c + 16 * d + 256 * e + 4096 * f) ∷ [])))))) units pn.1 in
+    let pd = passed 16 d (λ d. number_below 16 e >>= (λ e. number_below 16 f >>= (λ f. number_below 16 g >>= (λ g. as_units ((op + 256 * (g + 16 * n)) ∷ i ∷ (c + 16 * d + 256 * e + 4096 * f) ∷ []))))) units pc.1 in
+    let pe = passed 16 e (λ e. number_below 16 f >>= (λ f. number_below 16 g >>= (λ g. as_units ((op + 256 * (g + 16 * n)) ∷ i ∷ (c + 16 * d + 256 * e + 4096 * f) ∷ [])))) units pd.1 in
+    let pf = passed 16 f (λ f. number_below 16 g >>= (λ g. as_units ((op + 256 * (g + 16 * n)) ∷ i ∷ (c + 16 * d + 256 * e + 4096 * f) ∷ []))) units pe.1 in
     let pg = passed 16 g (λ g. as_units ((op + 256 * (g + 16 * n)) ∷ i ∷ (c + 16 * d + 256 * e + 4096 * f) ∷ [])) units pf.1 in
     record {
       fits_n = pn.0;
@@ -247,7 +142,7 @@ names_few : (w : Listing) (i : ℕ) (regs : RawRegs) → NamesFew (listing_body 
 names_few listing.Filled i regs h = h
 names_few (listing.Invoke how) i regs h = h
 
-pub again_35c : (w : Listing) (op : ℕ) (body : RawBody) (units rest : List ℕ) → units_35c op body ≡ Some units
+again_35c : (w : Listing) (op : ℕ) (body : RawBody) (units rest : List ℕ) → units_35c op body ≡ Some units
     → without_operands body ≡ without_operands (listing_body w 0 (Few 0 (0 ∷ 0 ∷ 0 ∷ 0 ∷ 0 ∷ []))) → NamesFew body → Says (F35c w) op body units rest
 again_35c w op body units rest e h fits =
     let o = bind_some (listing_of body) (λ p. few_units op p.0 p.1) units e in
@@ -261,3 +156,57 @@ again_35c w op body units rest e h fits =
       whole = refl;
       body_is = ap (listing_body w o.0.0) s.regs_are ∙ b.0;
     }
+
+-- the instruction of each row
+pub by_row : (row : Row) (op : ℕ) (body : RawBody) (units rest : List ℕ) → units_by row op body ≡ Some units
+    → without_operands body ≡ without_operands (body_of row 0 []) → NamesFew body → Says row op body units rest
+by_row (F10x w) op body units rest e h few = record {
+  high = 0;
+  tail = [];
+  are = head op (op + 256 * 0) units [] (units_some (op ∷ []) units e) (omega arith);
+  passes = refl;
+  whole = refl;
+  body_is = from_plain w body h;
+}
+by_row (F12x w) op body units rest e h few =
+    pair_alone_says (F12x w) op body units rest _ e refl (λ a. refl) (λ p l is. rw (lower p.0 p.1 l, upper p.0 p.1 l) (from_pair w body p h is))
+by_row F11n op body units rest e h few =
+    pair_alone_says F11n op body units rest _ e refl (λ a. refl) (λ p l is. rw (lower p.0 p.1 l, upper p.0 p.1 l) (from_literal 8 literal.Int body p (omega arith) h is))
+by_row (F11x w) op body units rest e h few = byte_alone_says (F11x w) op body units rest _ e refl (λ a. refl) (λ a is. from_single w body a h is)
+by_row F10t op body units rest e h few = byte_alone_says F10t op body units rest _ e refl (λ a. refl) (λ n is. from_goto 128 body n is)
+by_row F20t op body units rest e h few = unit_behind_says F20t op body units rest _ e refl refl (λ n is. from_goto 32768 body n is)
+by_row (F22x k) op body units rest e h few =
+    byte_and_unit_says (F22x k) op body units rest _ e refl (λ a. refl) (λ p is. from_pair (pair.Move k) body p h is)
+by_row (F21t c) op body units rest e h few =
+    byte_and_unit_says (F21t c) op body units rest _ e refl (λ a. refl) (λ p is. from_test 32768 c body p h is)
+by_row (F21s w) op body units rest e h few =
+    byte_and_unit_says (F21s w) op body units rest _ e refl (λ a. refl) (λ p is. from_literal 32768 w body p (omega arith) h is)
+by_row (F21h w) op body units rest e h few =
+    byte_and_unit_says (F21h w) op body units rest _ e refl (λ a. refl) (λ p is. from_high w body p h is)
+by_row (F21c w) op body units rest e h few =
+    byte_and_unit_says (F21c w) op body units rest _ e refl (λ a. refl) (λ p is. from_named w body p h is)
+by_row (F23x w) op body units rest e h few =
+    three_bytes_say (F23x w) op body units rest _ e refl (λ a. refl) (λ p l is. rw (low_byte p.1 p.2 l, high_byte p.1 p.2 l) (from_triple w body p h is))
+by_row (F22b k) op body units rest e h few =
+    three_bytes_say (F22b k) op body units rest _ e refl (λ a. refl)
+    (λ p l is. rw (low_byte p.1 p.2 l, high_byte p.1 p.2 l) (from_with_literal 128 k body p (omega arith) h is))
+by_row (F22t c) op body units rest e h few =
+    pair_and_unit_says (F22t c) op body units rest _ e refl (λ a. refl) (λ p l is. rw (lower p.0 p.1 l, upper p.0 p.1 l) (from_compare 32768 c body p h is))
+by_row (F22s k) op body units rest e h few =
+    pair_and_unit_says (F22s k) op body units rest _ e refl (λ a. refl)
+    (λ p l is. rw (lower p.0 p.1 l, upper p.0 p.1 l) (from_with_literal 32768 k body p (omega arith) h is))
+by_row (F22c w) op body units rest e h few =
+    pair_and_unit_says (F22c w) op body units rest _ e refl (λ a. refl) (λ p l is. rw (lower p.0 p.1 l, upper p.0 p.1 l) (from_named_pair w body p h is))
+by_row F30t op body units rest e h few =
+    word_behind_says F30t op body units rest _ e refl refl (λ n is. rw (word_again n) (from_goto 2147483648 body n is))
+by_row (F32x k) op body units rest e h few =
+    two_units_behind_say (F32x k) op body units rest _ e refl refl (λ p is. from_pair (pair.Move k) body p h is)
+by_row (F31i w) op body units rest e h few =
+    byte_and_word_says (F31i w) op body units rest _ e refl (λ a. refl) (λ p is. rw (word_again p.1) (from_literal 2147483648 w body p (omega arith) h is))
+by_row (F31t w) op body units rest e h few =
+    byte_and_word_says (F31t w) op body units rest _ e refl (λ a. refl) (λ p is. rw (word_again p.1) (from_payload w body p h is))
+by_row F31c op body units rest e h few =
+    byte_and_word_says F31c op body units rest _ e refl (λ a. refl) (λ p is. rw (word_again p.1) (from_named named.ConstString body p h is))
+by_row (F35c w) op body units rest e h few = again_35c w op body units rest e h few
+by_row (F3rc w) op body units rest e h few = again_3rc w op body units rest e h
+by_row F51l op body units rest e h few = again_51l op body units rest e h

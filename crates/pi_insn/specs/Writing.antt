@@ -1,5 +1,5 @@
 -- The units of an instruction.
-use Rattle.std.specs.Prelude.{◌≡◌, pos, ℕ, ◌+◌, ◌*◌, ◌/◌, ◌%◌, ◌^◌, ◌≤◌, ◌==◌, nat_lt, List, [], ◌∷◌, slice_index, ℤ, Option, Some, None, Result, Ok, Err, IsSome, IsSomeAnd, if◌then◌else◌}
+use Rattle.std.specs.Prelude.{◌≡◌, pos, ℕ, ◌+◌, ◌*◌, ◌/◌, ◌%◌, ◌^◌, ◌≤◌, ◌==◌, nat_lt, List, [], ◌∷◌, slice_index, Option, Some, None, Result, Ok, Err, IsSome, IsSomeAnd, if◌then◌else◌}
 use Rattle.std.specs.List.{list_all}
 use Rattle.pi_insn.specs.declared.table.Row.{Row}
 use Rattle.pi_insn.specs.declared.table.Row.TheVariants.{F10x, F12x, F11n, F11x, F10t, F20t, F22x, F21t, F21s, F21h, F21c, F23x, F22b, F22t, F22s, F22c, F30t, F32x, F31i, F31t, F31c, F35c, F3rc, F51l}
@@ -11,7 +11,7 @@ use Rattle.pi_insn.specs.declared.raw.RawRegs.TheVariants.{Few, Run}
 use Rattle.pi_insn.specs.declared.fault.EncodeError.{EncodeError}
 use Rattle.pi_insn.specs.declared.fault.EncodeError.TheVariants.{OutOfMemory, Range}
 use Rattle.pi_insn.specs.Chain.{◌>>=◌}
-use Rattle.pi_insn.specs.Numbers.{below, bits, shortened, shifted}
+use Rattle.pi_insn.specs.Numbers.{number_below, bits, short_bits, exact_quotient}
 use Rattle.pi_insn.specs.Table.{row_of}
 use Rattle.pi_insn.specs.Reading.{body_of}
 
@@ -21,10 +21,10 @@ as_units units = if list_all (λ u. nat_lt u 65536) units then Some units else N
 
 -- the first unit of a format with a byte behind the opcode, and of one with two numbers of four bits there
 abbrev pub with_byte : ℕ → ℕ → Option ℕ
-with_byte op a = below 256 a >>= (λ a. Some (op + 256 * a))
+with_byte op a = number_below 256 a >>= (λ a. Some (op + 256 * a))
 
 abbrev pub with_pair : ℕ → ℕ → ℕ → Option ℕ
-with_pair op a b = below 16 a >>= (λ a. below 16 b >>= (λ b. Some (op + 256 * a + 4096 * b)))
+with_pair op a b = number_below 16 a >>= (λ a. number_below 16 b >>= (λ b. Some (op + 256 * a + 4096 * b)))
 
 -- a first unit and one more, and a first unit with a 32-bit number
 abbrev pub with_unit : Option ℕ → ℕ → Option (List ℕ)
@@ -62,13 +62,13 @@ triple_of _ = None
 
 -- the register of a constant and its bits, of which half are so many; the bits of one that is given by its top unit
 abbrev pub literal_of : ℕ → RawBody → Option (ℕ × ℕ)
-literal_of half (Const a v) = shortened half (2 ^ 32) v >>= (λ n. Some (a, n))
-literal_of half (ConstWide a v) = shortened half (2 ^ 64) v >>= (λ n. Some (a, n))
+literal_of half (Const a v) = short_bits half (2 ^ 32) v >>= (λ n. Some (a, n))
+literal_of half (ConstWide a v) = short_bits half (2 ^ 64) v >>= (λ n. Some (a, n))
 literal_of half _ = None
 
 abbrev pub high_of : RawBody → Option (ℕ × ℕ)
-high_of (Const a v) = shifted (2 ^ 16) v >>= (λ n. Some (a, n))
-high_of (ConstWide a v) = shifted (2 ^ 48) v >>= (λ n. Some (a, n))
+high_of (Const a v) = exact_quotient (2 ^ 16) v >>= (λ n. Some (a, n))
+high_of (ConstWide a v) = exact_quotient (2 ^ 48) v >>= (λ n. Some (a, n))
 high_of _ = None
 
 -- the register and the index of an instruction with these
@@ -88,27 +88,27 @@ named_pair_of (Iget k a b i) = Some (a, b, i)
 named_pair_of (Iput k a b i) = Some (a, b, i)
 named_pair_of _ = None
 
--- the register and the distance of an instruction with these
-abbrev pub payload_of : RawBody → Option (ℕ × ℤ)
-payload_of (FillArray a dist) = Some (a, dist)
-payload_of (Switch a dist) = Some (a, dist)
-payload_of _ = None
+-- the register and the bits of the distance of an instruction with these; half of them are so many
+abbrev pub payload_of : ℕ → RawBody → Option (ℕ × ℕ)
+payload_of half (FillArray a dist) = bits half dist >>= (λ n. Some (a, n))
+payload_of half (Switch a dist) = bits half dist >>= (λ n. Some (a, n))
+payload_of half _ = None
 
-abbrev pub goto_of : RawBody → Option ℤ
-goto_of (Goto dist) = Some dist
-goto_of _ = None
+abbrev pub goto_of : ℕ → RawBody → Option ℕ
+goto_of half (Goto dist) = bits half dist
+goto_of half _ = None
 
-abbrev pub test_of : RawBody → Option (ℕ × ℤ)
-test_of (IfZ cond a dist) = Some (a, dist)
-test_of _ = None
+abbrev pub test_of : ℕ → RawBody → Option (ℕ × ℕ)
+test_of half (IfZ cond a dist) = bits half dist >>= (λ n. Some (a, n))
+test_of half _ = None
 
-abbrev pub compare_of : RawBody → Option (ℕ × ℕ × ℤ)
-compare_of (If cond a b dist) = Some (a, b, dist)
-compare_of _ = None
+abbrev pub compare_of : ℕ → RawBody → Option (ℕ × ℕ × ℕ)
+compare_of half (If cond a b dist) = bits half dist >>= (λ n. Some (a, b, n))
+compare_of half _ = None
 
 -- the registers and the bits of an operation with a literal
 abbrev pub with_literal_of : ℕ → RawBody → Option (ℕ × ℕ × ℕ)
-with_literal_of half (BinaryLit op a b v) = shortened half (2 ^ 32) v >>= (λ n. Some (a, b, n))
+with_literal_of half (BinaryLit op a b v) = short_bits half (2 ^ 32) v >>= (λ n. Some (a, b, n))
 with_literal_of half _ = None
 
 -- the index and the registers of an instruction that names several
@@ -120,7 +120,7 @@ listing_of _ = None
 -- the units of at most five registers: their number and the fifth stand behind the opcode, the first four in a unit
 abbrev pub few_of : ℕ → ℕ → ℕ → List ℕ → Option (List ℕ)
 few_of op i n (c ∷ d ∷ e ∷ f ∷ g ∷ []) =
-    below 6 n >>= (λ n. below 16 c >>= (λ c. below 16 d >>= (λ d. below 16 e >>= (λ e. below 16 f >>= (λ f. below 16 g >>= (λ g.
+    number_below 6 n >>= (λ n. number_below 16 c >>= (λ c. number_below 16 d >>= (λ d. number_below 16 e >>= (λ e. number_below 16 f >>= (λ f. number_below 16 g >>= (λ g.
     as_units ((op + 256 * (g + 16 * n)) ∷ i ∷ (c + 16 * d + 256 * e + 4096 * f) ∷ [])))))))
 few_of op i n _ = None
 
@@ -137,66 +137,34 @@ run_units op i _ = None
 abbrev pub with_long : Option ℕ → ℕ → Option (List ℕ)
 with_long first n = first >>= (λ u. as_units (u ∷ n % 65536 ∷ n / 65536 % 65536 ∷ n / 4294967296 % 65536 ∷ n / 281474976710656 ∷ []))
 
--- the units of each format's instructions, where each operand fits
-abbrev pub units_12x : ℕ → RawBody → Option (List ℕ)
-units_12x op body = pair_of body >>= (λ p. alone (with_pair op p.0 p.1))
+-- The units of operands, where each fits: one unit, with a byte or two numbers of four bits behind the opcode; one more
+-- unit behind that; a 32-bit number behind it; and so on. Formats differ in where the operands come from.
+abbrev pub byte_alone : ℕ → Option ℕ → Option (List ℕ)
+byte_alone op operand = operand >>= (λ a. alone (with_byte op a))
 
-abbrev pub units_11n : ℕ → RawBody → Option (List ℕ)
-units_11n op body = literal_of 8 body >>= (λ p. alone (with_pair op p.0 p.1))
+abbrev pub pair_alone : ℕ → Option (ℕ × ℕ) → Option (List ℕ)
+pair_alone op operands = operands >>= (λ p. alone (with_pair op p.0 p.1))
 
-abbrev pub units_11x : ℕ → RawBody → Option (List ℕ)
-units_11x op body = single_of body >>= (λ a. alone (with_byte op a))
+abbrev pub unit_behind : ℕ → Option ℕ → Option (List ℕ)
+unit_behind op operand = operand >>= (λ n. with_unit (Some op) n)
 
-abbrev pub units_10t : ℕ → RawBody → Option (List ℕ)
-units_10t op body = goto_of body >>= (λ dist. bits 128 dist >>= (λ n. alone (with_byte op n)))
+abbrev pub byte_and_unit : ℕ → Option (ℕ × ℕ) → Option (List ℕ)
+byte_and_unit op operands = operands >>= (λ p. with_unit (with_byte op p.0) p.1)
 
-abbrev pub units_20t : ℕ → RawBody → Option (List ℕ)
-units_20t op body = goto_of body >>= (λ dist. bits 32768 dist >>= (λ n. with_unit (Some op) n))
+abbrev pub pair_and_unit : ℕ → Option (ℕ × ℕ × ℕ) → Option (List ℕ)
+pair_and_unit op operands = operands >>= (λ p. with_unit (with_pair op p.0 p.1) p.2)
 
-abbrev pub units_22x : ℕ → RawBody → Option (List ℕ)
-units_22x op body = pair_of body >>= (λ p. with_unit (with_byte op p.0) p.1)
+abbrev pub three_bytes : ℕ → Option (ℕ × ℕ × ℕ) → Option (List ℕ)
+three_bytes op operands = operands >>= (λ p. with_byte op p.0 >>= (λ u. number_below 256 p.1 >>= (λ b. number_below 256 p.2 >>= (λ c. as_units (u ∷ (b + 256 * c) ∷ [])))))
 
-abbrev pub units_21t : ℕ → RawBody → Option (List ℕ)
-units_21t op body = test_of body >>= (λ p. bits 32768 p.1 >>= (λ n. with_unit (with_byte op p.0) n))
+abbrev pub two_units_behind : ℕ → Option (ℕ × ℕ) → Option (List ℕ)
+two_units_behind op operands = operands >>= (λ p. as_units (op ∷ p.0 ∷ p.1 ∷ []))
 
-abbrev pub units_21s : ℕ → RawBody → Option (List ℕ)
-units_21s op body = literal_of 32768 body >>= (λ p. with_unit (with_byte op p.0) p.1)
+abbrev pub word_behind : ℕ → Option ℕ → Option (List ℕ)
+word_behind op operand = operand >>= (λ n. with_word (Some op) n)
 
-abbrev pub units_21h : ℕ → RawBody → Option (List ℕ)
-units_21h op body = high_of body >>= (λ p. with_unit (with_byte op p.0) p.1)
-
-abbrev pub units_21c : ℕ → RawBody → Option (List ℕ)
-units_21c op body = named_of body >>= (λ p. with_unit (with_byte op p.0) p.1)
-
-abbrev pub units_23x : ℕ → RawBody → Option (List ℕ)
-units_23x op body = triple_of body >>= (λ p. with_byte op p.0 >>= (λ u. below 256 p.1 >>= (λ b. below 256 p.2 >>= (λ c. as_units (u ∷ (b + 256 * c) ∷ [])))))
-
-abbrev pub units_22b : ℕ → RawBody → Option (List ℕ)
-units_22b op body = with_literal_of 128 body >>= (λ p. with_byte op p.0 >>= (λ u. below 256 p.1 >>= (λ b. as_units (u ∷ (b + 256 * p.2) ∷ []))))
-
-abbrev pub units_22t : ℕ → RawBody → Option (List ℕ)
-units_22t op body = compare_of body >>= (λ p. bits 32768 p.2 >>= (λ n. with_unit (with_pair op p.0 p.1) n))
-
-abbrev pub units_22s : ℕ → RawBody → Option (List ℕ)
-units_22s op body = with_literal_of 32768 body >>= (λ p. with_unit (with_pair op p.0 p.1) p.2)
-
-abbrev pub units_22c : ℕ → RawBody → Option (List ℕ)
-units_22c op body = named_pair_of body >>= (λ p. with_unit (with_pair op p.0 p.1) p.2)
-
-abbrev pub units_30t : ℕ → RawBody → Option (List ℕ)
-units_30t op body = goto_of body >>= (λ dist. bits 2147483648 dist >>= (λ n. with_word (Some op) n))
-
-abbrev pub units_32x : ℕ → RawBody → Option (List ℕ)
-units_32x op body = pair_of body >>= (λ p. as_units (op ∷ p.0 ∷ p.1 ∷ []))
-
-abbrev pub units_31i : ℕ → RawBody → Option (List ℕ)
-units_31i op body = literal_of 2147483648 body >>= (λ p. with_word (with_byte op p.0) p.1)
-
-abbrev pub units_31t : ℕ → RawBody → Option (List ℕ)
-units_31t op body = payload_of body >>= (λ p. bits 2147483648 p.1 >>= (λ n. with_word (with_byte op p.0) n))
-
-abbrev pub units_31c : ℕ → RawBody → Option (List ℕ)
-units_31c op body = named_of body >>= (λ p. with_word (with_byte op p.0) p.1)
+abbrev pub byte_and_word : ℕ → Option (ℕ × ℕ) → Option (List ℕ)
+byte_and_word op operands = operands >>= (λ p. with_word (with_byte op p.0) p.1)
 
 abbrev pub units_35c : ℕ → RawBody → Option (List ℕ)
 units_35c op body = listing_of body >>= (λ p. few_units op p.0 p.1)
@@ -211,26 +179,26 @@ units_51l op _ = None
 -- the units of a row's instruction
 abbrev pub units_by : Row → ℕ → RawBody → Option (List ℕ)
 units_by (F10x w) op body = as_units (op ∷ [])
-units_by (F12x w) op body = units_12x op body
-units_by F11n op body = units_11n op body
-units_by (F11x w) op body = units_11x op body
-units_by F10t op body = units_10t op body
-units_by F20t op body = units_20t op body
-units_by (F22x k) op body = units_22x op body
-units_by (F21t c) op body = units_21t op body
-units_by (F21s w) op body = units_21s op body
-units_by (F21h w) op body = units_21h op body
-units_by (F21c w) op body = units_21c op body
-units_by (F23x w) op body = units_23x op body
-units_by (F22b k) op body = units_22b op body
-units_by (F22t c) op body = units_22t op body
-units_by (F22s k) op body = units_22s op body
-units_by (F22c w) op body = units_22c op body
-units_by F30t op body = units_30t op body
-units_by (F32x k) op body = units_32x op body
-units_by (F31i w) op body = units_31i op body
-units_by (F31t w) op body = units_31t op body
-units_by F31c op body = units_31c op body
+units_by (F12x w) op body = pair_alone op (pair_of body)
+units_by F11n op body = pair_alone op (literal_of 8 body)
+units_by (F11x w) op body = byte_alone op (single_of body)
+units_by F10t op body = byte_alone op (goto_of 128 body)
+units_by F20t op body = unit_behind op (goto_of 32768 body)
+units_by (F22x k) op body = byte_and_unit op (pair_of body)
+units_by (F21t c) op body = byte_and_unit op (test_of 32768 body)
+units_by (F21s w) op body = byte_and_unit op (literal_of 32768 body)
+units_by (F21h w) op body = byte_and_unit op (high_of body)
+units_by (F21c w) op body = byte_and_unit op (named_of body)
+units_by (F23x w) op body = three_bytes op (triple_of body)
+units_by (F22b k) op body = three_bytes op (with_literal_of 128 body)
+units_by (F22t c) op body = pair_and_unit op (compare_of 32768 body)
+units_by (F22s k) op body = pair_and_unit op (with_literal_of 32768 body)
+units_by (F22c w) op body = pair_and_unit op (named_pair_of body)
+units_by F30t op body = word_behind op (goto_of 2147483648 body)
+units_by (F32x k) op body = two_units_behind op (pair_of body)
+units_by (F31i w) op body = byte_and_word op (literal_of 2147483648 body)
+units_by (F31t w) op body = byte_and_word op (payload_of 2147483648 body)
+units_by F31c op body = byte_and_word op (named_of body)
 units_by (F35c w) op body = units_35c op body
 units_by (F3rc w) op body = units_3rc op body
 units_by F51l op body = units_51l op body
@@ -240,8 +208,8 @@ units_where None op body = None
 units_where (Some row) op body = units_by row op body
 
 -- the units of an instruction, where each operand fits the format of its opcode
-unfoldable pub written : RawInsn → Option (List ℕ)
-written i = units_where (row_of i.op) i.op i.body
+unfoldable pub encoding : RawInsn → Option (List ℕ)
+encoding i = units_where (row_of i.op) i.op i.body
 
 abbrev pub zero_regs : RawRegs → RawRegs
 zero_regs (Few n regs) = Few 0 (0 ∷ 0 ∷ 0 ∷ 0 ∷ 0 ∷ [])

@@ -1,10 +1,10 @@
 // The operands of an instruction, where it is one of those that a format has.
 
 ghost use Rattle.std.specs.Prelude.{◌≡◌, ◌≤◌, ◌^◌};
-ghost use Rattle.pi_insn.specs.Numbers.{shifted, shortened};
+ghost use Rattle.pi_insn.specs.Numbers.{bits, exact_quotient, short_bits};
 ghost use Rattle.pi_insn.specs.Writing.{single_of, pair_of, triple_of, literal_of, high_of, named_of, named_pair_of, payload_of, goto_of, test_of, compare_of, with_literal_of, listing_of};
 
-use crate::packed::{shortened_int, shortened_long};
+use crate::packed::{bits, shortened_int, shortened_long};
 use crate::raw::{RawBody, RawRegs};
 
 pub fn single_of(body: &RawBody) -> Option<u16>
@@ -97,38 +97,52 @@ pub fn named_pair_of(body: &RawBody) -> Option<(u16, u16, u32)>
     }
 }
 
-pub fn payload_of(body: &RawBody) -> Option<(u16, i32)>
-    ensures { result ≡ payload_of body.now }
+/// The bits of the distance; `half` is half of their range.
+pub fn payload_of(half: u32, body: &RawBody) -> Option<(u16, u32)>
+    requires { half ≤ 2 ^ 31 }
+    ensures { result ≡ payload_of half body.now }
 {
     match body {
-        RawBody::FillArray { a, dist } | RawBody::Switch { a, dist } => Some((*a, *dist)),
+        RawBody::FillArray { a, dist } | RawBody::Switch { a, dist } => {
+            let n = bits(half, *dist)?;
+            Some((*a, n))
+        }
         _ => None,
     }
 }
 
-pub fn goto_of(body: &RawBody) -> Option<i32>
-    ensures { result ≡ goto_of body.now }
+pub fn goto_of(half: u32, body: &RawBody) -> Option<u32>
+    requires { half ≤ 2 ^ 31 }
+    ensures { result ≡ goto_of half body.now }
 {
     match body {
-        RawBody::Goto { dist } => Some(*dist),
+        RawBody::Goto { dist } => bits(half, *dist),
         _ => None,
     }
 }
 
-pub fn test_of(body: &RawBody) -> Option<(u16, i32)>
-    ensures { result ≡ test_of body.now }
+pub fn test_of(half: u32, body: &RawBody) -> Option<(u16, u32)>
+    requires { half ≤ 2 ^ 31 }
+    ensures { result ≡ test_of half body.now }
 {
     match body {
-        RawBody::IfZ { a, dist, .. } => Some((*a, *dist)),
+        RawBody::IfZ { a, dist, .. } => {
+            let n = bits(half, *dist)?;
+            Some((*a, n))
+        }
         _ => None,
     }
 }
 
-pub fn compare_of(body: &RawBody) -> Option<(u16, u16, i32)>
-    ensures { result ≡ compare_of body.now }
+pub fn compare_of(half: u32, body: &RawBody) -> Option<(u16, u16, u32)>
+    requires { half ≤ 2 ^ 31 }
+    ensures { result ≡ compare_of half body.now }
 {
     match body {
-        RawBody::If { a, b, dist, .. } => Some((*a, *b, *dist)),
+        RawBody::If { a, b, dist, .. } => {
+            let n = bits(half, *dist)?;
+            Some((*a, *b, n))
+        }
         _ => None,
     }
 }

@@ -3,7 +3,7 @@
 
 ghost use Rattle.std.specs.Prelude.{◌≡◌, Some, [], ◌∷◌};
 ghost use Rattle.pi_insn.specs.Packed.{list_where};
-ghost use Rattle.pi_insn.specs.Writing.{as_units, units_by, units_12x, units_11n, units_11x, units_10t, units_20t, units_22x, units_21t, units_21s, units_21h, units_21c, units_23x, units_22b, units_22t, units_22s, units_22c, units_30t, units_32x, units_31i, units_31t, units_31c, units_35c, units_3rc, units_51l, few_of, few_units, run_units, units_where, written, IsInTable, Writes};
+ghost use Rattle.pi_insn.specs.Writing.{as_units, single_of, pair_of, triple_of, literal_of, with_literal_of, goto_of, byte_alone, pair_alone, unit_behind, byte_and_unit, pair_and_unit, three_bytes, two_units_behind, word_behind, byte_and_word, units_35c, units_3rc, units_51l, units_by, few_of, few_units, run_units, units_where, encoding, IsInTable, Writes};
 ghost use Rattle.pi_insn.specs.Table.{row_of};
 
 use crate::fault::EncodeError;
@@ -11,9 +11,7 @@ use crate::operands::{
     compare_of, goto_of, high_of, listing_of, literal_of, named_of, named_pair_of, pair_of,
     payload_of, single_of, test_of, triple_of, with_literal_of,
 };
-use crate::packed::{
-    Packed, below, bits, one, three, two, with_byte, with_long, with_pair, with_word,
-};
+use crate::packed::{Packed, below, one, three, two, with_byte, with_long, with_pair, with_word};
 use crate::raw::{RawBody, RawInsn, RawRegs};
 use crate::table::{Row, row_of};
 use pi_model::listed::Units;
@@ -72,81 +70,65 @@ fn run_units(op: u8, index: u32, regs: RawRegs) -> Option<Packed>
 }
 
 fn units_12x(op: u8, body: &RawBody) -> Option<Packed>
-    ensures { list_where result ≡ units_12x op body.now }
+    ensures { list_where result ≡ pair_alone op (pair_of body.now) }
 {
     let (a, b) = pair_of(body)?;
     Some(one(with_pair(op, a, b)?))
 }
 
 fn units_11n(op: u8, body: &RawBody) -> Option<Packed>
-    ensures { list_where result ≡ units_11n op body.now }
+    ensures { list_where result ≡ pair_alone op (literal_of 8 body.now) }
 {
     let (a, n) = literal_of(8, body)?;
     Some(one(with_pair(op, a, n as u16)?))
 }
 
 fn units_11x(op: u8, body: &RawBody) -> Option<Packed>
-    ensures { list_where result ≡ units_11x op body.now }
+    ensures { list_where result ≡ byte_alone op (single_of body.now) }
 {
     let a = single_of(body)?;
     Some(one(with_byte(op, a)?))
 }
 
 fn units_10t(op: u8, body: &RawBody) -> Option<Packed>
-    ensures { list_where result ≡ units_10t op body.now }
+    ensures { list_where result ≡ byte_alone op (goto_of 128 body.now) }
 {
-    let dist = goto_of(body)?;
-    let n = bits(128, dist)?;
+    let n = goto_of(128, body)?;
     Some(one(with_byte(op, n as u16)?))
 }
 
 fn units_20t(op: u8, body: &RawBody) -> Option<Packed>
-    ensures { list_where result ≡ units_20t op body.now }
+    ensures { list_where result ≡ unit_behind op (goto_of 32768 body.now) }
 {
-    let dist = goto_of(body)?;
-    let n = bits(32768, dist)?;
+    let n = goto_of(32768, body)?;
     Some(two(op as u16, n as u16))
 }
 
-fn units_22x(op: u8, body: &RawBody) -> Option<Packed>
-    ensures { list_where result ≡ units_22x op body.now }
+fn byte_and_unit(op: u8, operands: Option<(u16, u16)>) -> Option<Packed>
+    ensures { list_where result ≡ byte_and_unit op operands }
 {
-    let (a, b) = pair_of(body)?;
+    let (a, b) = operands?;
     Some(two(with_byte(op, a)?, b))
 }
 
-fn units_21t(op: u8, body: &RawBody) -> Option<Packed>
-    ensures { list_where result ≡ units_21t op body.now }
+fn byte_and_index(op: u8, operands: Option<(u16, u32)>) -> Option<Packed>
+    ensures { list_where result ≡ byte_and_unit op operands }
 {
-    let (a, dist) = test_of(body)?;
-    let n = bits(32768, dist)?;
-    Some(two(with_byte(op, a)?, n as u16))
-}
-
-fn units_21s(op: u8, body: &RawBody) -> Option<Packed>
-    ensures { list_where result ≡ units_21s op body.now }
-{
-    let (a, n) = literal_of(32768, body)?;
-    Some(two(with_byte(op, a)?, n as u16))
-}
-
-fn units_21h(op: u8, body: &RawBody) -> Option<Packed>
-    ensures { list_where result ≡ units_21h op body.now }
-{
-    let (a, n) = high_of(body)?;
-    Some(two(with_byte(op, a)?, n))
-}
-
-fn units_21c(op: u8, body: &RawBody) -> Option<Packed>
-    ensures { list_where result ≡ units_21c op body.now }
-{
-    let (a, index) = named_of(body)?;
+    let (a, index) = operands?;
     let first = with_byte(op, a)?;
     with_index(first, index)
 }
 
+fn pair_and_index(op: u8, operands: Option<(u16, u16, u32)>) -> Option<Packed>
+    ensures { list_where result ≡ pair_and_unit op operands }
+{
+    let (a, b, index) = operands?;
+    let first = with_pair(op, a, b)?;
+    with_index(first, index)
+}
+
 fn units_23x(op: u8, body: &RawBody) -> Option<Packed>
-    ensures { list_where result ≡ units_23x op body.now }
+    ensures { list_where result ≡ three_bytes op (triple_of body.now) }
 {
     let (a, b, c) = triple_of(body)?;
     let first = with_byte(op, a)?;
@@ -156,72 +138,34 @@ fn units_23x(op: u8, body: &RawBody) -> Option<Packed>
 }
 
 fn units_22b(op: u8, body: &RawBody) -> Option<Packed>
-    ensures { list_where result ≡ units_22b op body.now }
+    ensures { list_where result ≡ three_bytes op (with_literal_of 128 body.now) }
 {
     let (a, b, n) = with_literal_of(128, body)?;
     let first = with_byte(op, a)?;
     let b = below(256, b)?;
-    Some(two(first, b + 256 * n as u16))
-}
-
-fn units_22t(op: u8, body: &RawBody) -> Option<Packed>
-    ensures { list_where result ≡ units_22t op body.now }
-{
-    let (a, b, dist) = compare_of(body)?;
-    let n = bits(32768, dist)?;
-    Some(two(with_pair(op, a, b)?, n as u16))
-}
-
-fn units_22s(op: u8, body: &RawBody) -> Option<Packed>
-    ensures { list_where result ≡ units_22s op body.now }
-{
-    let (a, b, n) = with_literal_of(32768, body)?;
-    Some(two(with_pair(op, a, b)?, n as u16))
-}
-
-fn units_22c(op: u8, body: &RawBody) -> Option<Packed>
-    ensures { list_where result ≡ units_22c op body.now }
-{
-    let (a, b, index) = named_pair_of(body)?;
-    let first = with_pair(op, a, b)?;
-    with_index(first, index)
+    let n = below(256, n as u16)?;
+    Some(two(first, b + 256 * n))
 }
 
 fn units_30t(op: u8, body: &RawBody) -> Option<Packed>
-    ensures { list_where result ≡ units_30t op body.now }
+    ensures { list_where result ≡ word_behind op (goto_of 2147483648 body.now) }
 {
-    let dist = goto_of(body)?;
-    let n = bits(1 << 31, dist)?;
+    let n = goto_of(1 << 31, body)?;
     Some(with_word(op as u16, n))
 }
 
 fn units_32x(op: u8, body: &RawBody) -> Option<Packed>
-    ensures { list_where result ≡ units_32x op body.now }
+    ensures { list_where result ≡ two_units_behind op (pair_of body.now) }
 {
     let (a, b) = pair_of(body)?;
     Some(three(op as u16, a, b))
 }
 
-fn units_31i(op: u8, body: &RawBody) -> Option<Packed>
-    ensures { list_where result ≡ units_31i op body.now }
+fn byte_and_word(op: u8, operands: Option<(u16, u32)>) -> Option<Packed>
+    ensures { list_where result ≡ byte_and_word op operands }
 {
-    let (a, n) = literal_of(1 << 31, body)?;
+    let (a, n) = operands?;
     Some(with_word(with_byte(op, a)?, n))
-}
-
-fn units_31t(op: u8, body: &RawBody) -> Option<Packed>
-    ensures { list_where result ≡ units_31t op body.now }
-{
-    let (a, dist) = payload_of(body)?;
-    let n = bits(1 << 31, dist)?;
-    Some(with_word(with_byte(op, a)?, n))
-}
-
-fn units_31c(op: u8, body: &RawBody) -> Option<Packed>
-    ensures { list_where result ≡ units_31c op body.now }
-{
-    let (a, index) = named_of(body)?;
-    Some(with_word(with_byte(op, a)?, index))
 }
 
 fn units_35c(op: u8, body: &RawBody) -> Option<Packed>
@@ -258,21 +202,21 @@ fn units_by(row: Row, op: u8, body: &RawBody) -> Option<Packed>
         Row::F11x(_) => units_11x(op, body),
         Row::F10t => units_10t(op, body),
         Row::F20t => units_20t(op, body),
-        Row::F22x(_) => units_22x(op, body),
-        Row::F21t(_) => units_21t(op, body),
-        Row::F21s(_) => units_21s(op, body),
-        Row::F21h(_) => units_21h(op, body),
-        Row::F21c(_) => units_21c(op, body),
+        Row::F22x(_) => byte_and_unit(op, pair_of(body)),
+        Row::F21t(_) => byte_and_index(op, test_of(32768, body)),
+        Row::F21s(_) => byte_and_index(op, literal_of(32768, body)),
+        Row::F21h(_) => byte_and_unit(op, high_of(body)),
+        Row::F21c(_) => byte_and_index(op, named_of(body)),
         Row::F23x(_) => units_23x(op, body),
         Row::F22b(_) => units_22b(op, body),
-        Row::F22t(_) => units_22t(op, body),
-        Row::F22s(_) => units_22s(op, body),
-        Row::F22c(_) => units_22c(op, body),
+        Row::F22t(_) => pair_and_index(op, compare_of(32768, body)),
+        Row::F22s(_) => pair_and_index(op, with_literal_of(32768, body)),
+        Row::F22c(_) => pair_and_index(op, named_pair_of(body)),
         Row::F30t => units_30t(op, body),
         Row::F32x(_) => units_32x(op, body),
-        Row::F31i(_) => units_31i(op, body),
-        Row::F31t(_) => units_31t(op, body),
-        Row::F31c => units_31c(op, body),
+        Row::F31i(_) => byte_and_word(op, literal_of(1 << 31, body)),
+        Row::F31t(_) => byte_and_word(op, payload_of(1 << 31, body)),
+        Row::F31c => byte_and_word(op, named_of(body)),
         Row::F35c(_) => units_35c(op, body),
         Row::F3rc(_) => units_3rc(op, body),
         Row::F51l => units_51l(op, body),
@@ -281,10 +225,10 @@ fn units_by(row: Row, op: u8, body: &RawBody) -> Option<Packed>
 
 /// The units of an instruction. `Range` exactly where an operand does not fit the format of its opcode; want of memory
 /// is answered only where all fit.
-#[tactic(auto, unfolding(crate::specs::Writing::written))]
+#[tactic(auto, unfolding(crate::specs::Writing::encoding))]
 pub fn encode(alloc: Global, insn: &RawInsn) -> Result<Units, EncodeError>
     requires { IsInTable insn.now }
-    ensures { Writes (written insn.now) result }
+    ensures { Writes (encoding insn.now) result }
 {
     let Some(row) = row_of(insn.op) else {
         return Err(EncodeError::Range);

@@ -9,7 +9,7 @@ use Rattle.std.proofs.lemmas.Option.{get_or_from_slice_get}
 use Rattle.pi_model.specs.declared.numbers.Addr.{Addr}
 use Rattle.pi_model.specs.declared.numbers.NameNo.{NameNo}
 use Rattle.pi_model.specs.Uses.{name_below, names_below}
-use Rattle.pi_intern.specs.Literals.{cleared, at_begin, IsKept}
+use Rattle.pi_intern.specs.Literals.{without_names, at_begin, IsKept}
 
 -- emptying a slot that is empty changes nothing
 set_empty : (slots : List (Option Addr)) (i : ℕ) → slice_get slots i ≡ Some None → set slots i None ≡ slots
@@ -18,12 +18,12 @@ set_empty slots i e =
     ap (λ v. set slots i v) (sym is) ∙ set-get_or slots i None
 
 -- one slot more is set, and one name more is remembered
-pub cleared_set : (slots : List (Option Addr)) (n : NameNo) (at : Addr) (names : List NameNo) → slice_get slots n.0 ≡ Some None → cleared (set slots n.0 (Some at)) (names ++ n ∷ []) ≡ cleared slots names
+pub cleared_set : (slots : List (Option Addr)) (n : NameNo) (at : Addr) (names : List NameNo) → slice_get slots n.0 ≡ Some None → without_names (set slots n.0 (Some at)) (names ++ n ∷ []) ≡ without_names slots names
 cleared_set slots n at [] e = set-set slots n.0 (Some at) None ∙ set_empty slots n.0 e
 cleared_set slots n at (m ∷ names) e = ap (λ v. set v m.0 None) (cleared_set slots n at names e)
 
 -- the last name is forgotten, and its slot is emptied
-pub cleared_last : (slots : List (Option Addr)) (names : List NameNo) (n : NameNo) → cleared slots (names ++ n ∷ []) ≡ cleared (set slots n.0 None) names
+pub cleared_last : (slots : List (Option Addr)) (names : List NameNo) (n : NameNo) → without_names slots (names ++ n ∷ []) ≡ without_names (set slots n.0 None) names
 cleared_last slots [] n = refl
 cleared_last slots (m ∷ names) n = ap (λ v. set v m.0 None) (cleared_last slots names n)
 

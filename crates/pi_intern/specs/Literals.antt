@@ -10,14 +10,14 @@ pub record Slots : Type 0 where
   pub begun : Option (List (Option Addr))
 
 -- the slots with those of some names emptied
-abbrev pub cleared : List (Option Addr) → List NameNo → List (Option Addr)
-cleared slots [] = slots
-cleared slots (n ∷ names) = slice_set (cleared slots names) n.0 None
+abbrev pub without_names : List (Option Addr) → List NameNo → List (Option Addr)
+without_names slots [] = slots
+without_names slots (n ∷ names) = slice_set (without_names slots names) n.0 None
 
 -- the slots at the begin of a transaction, which sets empty slots alone
 abbrev pub at_begin : Bool → List (Option Addr) → List NameNo → Option (List (Option Addr))
 at_begin false slots names = None
-at_begin true slots names = Some (cleared slots names)
+at_begin true slots names = Some (without_names slots names)
 
 -- the names that were set have slots and are no more than the slots that are not empty, and there is room for as many
 -- names as there are slots

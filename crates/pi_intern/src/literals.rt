@@ -2,7 +2,7 @@
 
 ghost use Rattle.std.specs.Prelude.{◌≡◌, ◌<◌, None, Some, [], length, replicate, slice_get, slice_set, vec_capacity, IfOk, IsSome, IsTrue};
 ghost use Rattle.pi_model.specs.Uses.{names_below};
-ghost use Rattle.pi_intern.specs.Literals.{cleared};
+ghost use Rattle.pi_intern.specs.Literals.{without_names};
 
 use pi_model::numbers::{Addr, NameNo};
 use std::alloc::{AllocError, Global};
@@ -102,7 +102,7 @@ impl Literals {
 /// Empties the slots of some names, the last name first.
 fn take_back(slots: &mut [Option<Addr>], names: &mut Vec<NameNo>)
     requires { IsTrue (names_below (length slots.old) names.old.items) }
-    ensures slots { slots.new ≡ cleared slots.old names.old.items }
+    ensures slots { slots.new ≡ without_names slots.old names.old.items }
     ensures done { names.new.items ≡ [] }
     ensures room { vec_capacity names.new ≡ vec_capacity names.old }
 {

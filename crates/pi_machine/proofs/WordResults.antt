@@ -11,7 +11,7 @@ use Rattle.pi_model.specs.declared.insn.UnOp.{UnOp}
 use Rattle.pi_model.specs.declared.insn.UnOp.TheVariants.{NegInt, NotInt, NegLong, NotLong, IntToLong, LongToInt, IntToByte, IntToChar, IntToShort}
 use Rattle.pi_model.specs.declared.insn.Access.{Access}
 use Rattle.pi_model.specs.declared.insn.Access.TheVariants as access
-use Rattle.pi_model.specs.Arithmetic.{unless_zero, binary_result, extended}
+use Rattle.pi_model.specs.Arithmetic.{unless_zero, binary_result, sign_extension}
 use Rattle.pi_machine.specs.State.{Thing}
 use Rattle.pi_machine.specs.Operands.{narrowed}
 use Rattle.pi_machine.specs.Rows.Numbers.{unary_value}
@@ -128,13 +128,13 @@ long_half = record { some = omega arith; whole = refl; negative = λ n. refl; si
 pub wrapped : (k n : ℕ) → n % 2 ^ k < 2 ^ k
 wrapped k n = mod-lt n (pow_pos k)
 
-pub byte_small : (n : ℕ) → extended w8 8 n < 2 ^ 32
+pub byte_small : (n : ℕ) → sign_extension w8 8 n < 2 ^ 32
 byte_small n =
     let m : n % 2 ^ 8 < 2 ^ 8 = wrapped 8 n in
     let f : far (cast_signed w8 (n % 2 ^ 8)) < 2 ^ 7 = byte_signed (n % 2 ^ 8) (ltb (n % 2 ^ 8) (2 ^ 7)) m refl in
     unsigned_small int_half (cast_signed w8 (n % 2 ^ 8)) (omega (arith, f))
 
-pub short_small : (n : ℕ) → extended w16 16 n < 2 ^ 32
+pub short_small : (n : ℕ) → sign_extension w16 16 n < 2 ^ 32
 short_small n =
     let m : n % 2 ^ 16 < 2 ^ 16 = wrapped 16 n in
     let f : far (cast_signed w16 (n % 2 ^ 16)) < 2 ^ 15 = short_signed (n % 2 ^ 16) (ltb (n % 2 ^ 16) (2 ^ 15)) m refl in

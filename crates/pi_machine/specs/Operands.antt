@@ -7,7 +7,7 @@ use Rattle.pi_model.specs.declared.insn.Access.{Access}
 use Rattle.pi_model.specs.declared.insn.Access.TheVariants as access
 use Rattle.pi_model.specs.declared.insn.Kind.{Kind}
 use Rattle.pi_model.specs.declared.insn.Kind.TheVariants as kind
-use Rattle.pi_model.specs.Arithmetic.{extended}
+use Rattle.pi_model.specs.Arithmetic.{sign_extension}
 use Rattle.pi_model.specs.Sizes.{is_reference}
 use Rattle.pi_model.specs.Values.{Ref, Value, Word, Low, High, Long, At}
 use Rattle.pi_machine.specs.State.{State, Frame}
@@ -133,9 +133,9 @@ narrowed access.Plain n = n
 narrowed access.Wide n = n
 narrowed access.Ref n = n
 narrowed access.Bool n = n % 2 ^ 8
-narrowed access.Byte n = extended w8 8 n
+narrowed access.Byte n = sign_extension w8 8 n
 narrowed access.Char n = n % 2 ^ 16
-narrowed access.Short n = extended w16 16 n
+narrowed access.Short n = sign_extension w16 16 n
 
 -- what a field or an element holds after a write of a value
 abbrev pub kept : Access → Value → Value

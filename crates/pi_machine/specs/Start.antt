@@ -1,10 +1,11 @@
 -- The state in which a run starts, and which method is main. All of it is our own.
-use Rattle.std.specs.Prelude.{◌++◌, length, Option, Some, None, ℕ, ◌+◌, ◌==◌, ◌&&◌, bit_and, is_some, position, option_map, option_and_then, List, [], ◌∷◌, map, flat_map, sum_by, Bool, false, if◌then◌else◌, unwrap_or, codes}
+use Rattle.std.specs.Prelude.{◌++◌, length, Option, Some, None, ℕ, ◌+◌, ◌==◌, ◌&&◌, is_some, position, option_map, option_and_then, List, [], ◌∷◌, map, flat_map, sum_by, Bool, false, if◌then◌else◌, unwrap_or, codes}
 use Rattle.std.specs.List.{list_any}
 use Rattle.pi_model.specs.declared.reason.ClassState.{ClassState}
 use Rattle.pi_model.specs.declared.reason.ClassState.TheVariants.{Fresh, Done}
 use Rattle.pi_model.specs.declared.describe.ClassDesc.{ClassDesc}
 use Rattle.pi_model.specs.declared.describe.MethodDesc.{MethodDesc}
+use Rattle.pi_model.specs.Flags.{is_static}
 use Rattle.pi_model.specs.Program.{Program, method_number}
 use Rattle.pi_model.specs.Texts.{is_named, are_named, name_of}
 use Rattle.pi_model.specs.Search.{class_at}
@@ -82,7 +83,7 @@ start_state p main args = with_main p main args (first_state p)
 unfoldable pub is_main : Program → MethodDesc → Bool
 is_main p m =
     is_named p m.name (codes "main") && (are_named p m.params (codes "[Ljava/lang/String;" ∷ []) && (is_named p m.ret (codes "V")
-    && ((bit_and m.flags 8 == 8) && is_some m.code)))
+    && (is_static m.flags && is_some m.code)))
 
 -- the method that a run begins for: main as the class of a descriptor declares it itself
 abbrev pub main_place : Program → ClassDesc → Option ℕ

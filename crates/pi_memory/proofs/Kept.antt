@@ -3,7 +3,7 @@
 use Rattle.std.proofs.Common.{◌≡◌, ℕ, ◌+◌, ◌%◌, ◌<◌, ◌≤◌, List, [], ◌∷◌, ◌++◌, length, slice_index_or, slice_set, replicate, true, Option, Some, None, inl, inr, arith, refl, ap, ◌∙◌, subst, length-append}
 use Rattle.std.proofs.lemmas.Bool.{cases_eq}
 use Rattle.std.proofs.lemmas.List.{length-set, length-replicate, set-set, get_or-set_same, get_or-set_other, get_or_default}
-use Rattle.pi_memory.specs.Space.{Space, no_space, IsSpace, mark_of, holds, put, grown}
+use Rattle.pi_memory.specs.Space.{Space, no_space, IsSpace, mark_of, holds, with_bytes, with_zeros}
 use Rattle.pi_memory.specs.Memory.{Begun, space_at, holder, IsBelow, IsFree, IsOn, AreLaid, IsBegun}
 use Rattle.pi_memory.specs.Kept.{Copy, IsCopy, IsKept, taken_back, undo_of}
 use Rattle.pi_memory.proofs.Spaces.{at_holder, laid_set, laid_push, length-put, space_put, space_grown, space_cut}
@@ -83,29 +83,29 @@ undo_same ss copy undo k x s u lt e b f on =
 
 -- after a write
 pub written : (ss now : List Space) (copy : Option Copy) (at : ℕ) (ys : List ℕ) (k : ℕ) (x s : Space) → ss ≡ now → IsKept ss copy → k ≡ holder now at (length ys)
-    → IsBelow now at (length ys) → x ≡ slice_index_or ss k x → s ≡ put at ys x → IsKept (slice_set ss k s) copy
+    → IsBelow now at (length ys) → x ≡ slice_index_or ss k x → s ≡ with_bytes at ys x → IsKept (slice_set ss k s) copy
 written ss now copy at ys k x s same kept k_is below e put_is =
     let lt : k < length ss = rw (same, k_is) below in
     let h = has_bytes ss now at (length ys) k x same k_is below e in
-    rw put_is (changed ss copy k x (put at ys x) kept lt e (λ ok. space_put at ys x ok h) refl refl (omega (arith, length-put at ys x h)))
+    rw put_is (changed ss copy k x (with_bytes at ys x) kept lt e (λ ok. space_put at ys x ok h) refl refl (omega (arith, length-put at ys x h)))
 
 pub written_undo : (ss now : List Space) (copy : Option Copy) (undo : Option Begun) (at : ℕ) (ys : List ℕ) (k : ℕ) (x s : Space) → ss ≡ now → undo_of ss copy ≡ undo
-    → k ≡ holder now at (length ys) → IsBelow now at (length ys) → IsOn undo (holder now at (length ys)) → x ≡ slice_index_or ss k x → s ≡ put at ys x
+    → k ≡ holder now at (length ys) → IsBelow now at (length ys) → IsOn undo (holder now at (length ys)) → x ≡ slice_index_or ss k x → s ≡ with_bytes at ys x
     → undo_of (slice_set ss k s) copy ≡ undo
 written_undo ss now copy undo at ys k x s same u k_is below on e put_is =
     let lt : k < length ss = rw (same, k_is) below in
-    rw put_is (undo_same ss copy undo k x (put at ys x) u lt e refl refl (rw k_is on))
+    rw put_is (undo_same ss copy undo k x (with_bytes at ys x) u lt e refl refl (rw k_is on))
 
 -- after a bump
 pub raised : (ss : List Space) (copy : Option Copy) (k n m : ℕ) (x s : Space) → IsKept ss copy → k < length ss → x ≡ slice_index_or ss k x → n % 8 ≡ 0 → m ≡ n
-    → mark_of x + n ≤ x.end → s ≡ grown m x → IsKept (slice_set ss k s) copy
+    → mark_of x + n ≤ x.end → s ≡ with_zeros m x → IsKept (slice_set ss k s) copy
 raised ss copy k n m x s kept lt e whole m_is fits is =
     let long : length (x.bytes ++ replicate n 0) ≡ length x.bytes + n = simp (length-append, length-replicate) refl in
-    rw (is, m_is) (changed ss copy k x (grown n x) kept lt e (λ ok. space_grown n x ok whole fits) refl refl (omega (arith, long)))
+    rw (is, m_is) (changed ss copy k x (with_zeros n x) kept lt e (λ ok. space_grown n x ok whole fits) refl refl (omega (arith, long)))
 
 pub raised_undo : (ss : List Space) (copy : Option Copy) (undo : Option Begun) (k m : ℕ) (x s : Space) → undo_of ss copy ≡ undo → k < length ss → IsOn undo k
-    → x ≡ slice_index_or ss k x → s ≡ grown m x → undo_of (slice_set ss k s) copy ≡ undo
-raised_undo ss copy undo k m x s u lt on e is = rw is (undo_same ss copy undo k x (grown m x) u lt e refl refl on)
+    → x ≡ slice_index_or ss k x → s ≡ with_zeros m x → undo_of (slice_set ss k s) copy ≡ undo
+raised_undo ss copy undo k m x s u lt on e is = rw is (undo_same ss copy undo k x (with_zeros m x) u lt e refl refl on)
 
 -- after an abort
 pub restored : (ss : List Space) (copy rest : Option Copy) (k : ℕ) (bs : List ℕ) (x s : Space) → IsKept ss copy → rest ≡ None

@@ -3,7 +3,7 @@ use Rattle.std.proofs.Common.{◌≡◌, ℕ, ◌+◌, ◌%◌, ◌<◌, ◌≤�
 use Rattle.std.proofs.lemmas.Bool.{and_parts, and_from, leb-true, le-leb, cases_eq, false_from_ne_true}
 use Rattle.std.proofs.lemmas.List.{length-set, length-take, length-replicate, get_or-set_same, get_or-set_other, get_or_append_left, get_or_at}
 use Rattle.std.proofs.lemmas.List.Sums.{position_or_len_is, passes_at_first}
-use Rattle.pi_memory.specs.Space.{Space, no_space, mark_of, IsIn, IsSpace, holds, put, grown}
+use Rattle.pi_memory.specs.Space.{Space, no_space, mark_of, IsIn, IsSpace, holds, with_bytes, with_zeros}
 use Rattle.pi_memory.specs.Memory.{space_at, holder, IsBelow, IsFree, AreLaid}
 
 -- bytes that stand in a space are between its base and its mark
@@ -38,7 +38,7 @@ holder_is ss k at n laid some lt h =
     omega arith))
     (λ _. h)
 
-pub length-put : (at : ℕ) (ys : List ℕ) (s : Space) → holds at (length ys) s ≡ true → length (put at ys s).bytes ≡ length s.bytes
+pub length-put : (at : ℕ) (ys : List ℕ) (s : Space) → holds at (length ys) s ≡ true → length (with_bytes at ys s).bytes ≡ length s.bytes
 length-put at ys s h =
     let a = from_base at (length ys) s h in
     let b = to_mark at (length ys) s h in
@@ -49,10 +49,10 @@ pub space_as : (s t : Space) → IsSpace s → t.base ≡ s.base → length t.by
 space_as s t ok b l e =
     record { base_is_whole = rw b ok.base_is_whole; bytes_are_whole = rw l ok.bytes_are_whole; fits = rw (b, l, e) ok.fits; low = rw e ok.low }
 
-pub space_put : (at : ℕ) (ys : List ℕ) (s : Space) → IsSpace s → holds at (length ys) s ≡ true → IsSpace (put at ys s)
-space_put at ys s ok h = space_as s (put at ys s) ok refl (length-put at ys s h) refl
+pub space_put : (at : ℕ) (ys : List ℕ) (s : Space) → IsSpace s → holds at (length ys) s ≡ true → IsSpace (with_bytes at ys s)
+space_put at ys s ok h = space_as s (with_bytes at ys s) ok refl (length-put at ys s h) refl
 
-pub space_grown : (n : ℕ) (s : Space) → IsSpace s → n % 8 ≡ 0 → mark_of s + n ≤ s.end → IsSpace (grown n s)
+pub space_grown : (n : ℕ) (s : Space) → IsSpace s → n % 8 ≡ 0 → mark_of s + n ≤ s.end → IsSpace (with_zeros n s)
 space_grown n s ok whole fits =
     let long : length (s.bytes ++ replicate n 0) ≡ length s.bytes + n = simp (length-append, length-replicate) refl in
     record {

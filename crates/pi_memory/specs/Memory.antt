@@ -2,7 +2,7 @@
 use Rattle.std.specs.Prelude.{◌≡◌, ◌≢◌, ℕ, ◌<◌, ◌≤◌, List, length, slice_set, slice_index_or, Option}
 use Rattle.std.specs.List.{position_or_len}
 use Rattle.std.specs.Option.{ForSome}
-use Rattle.pi_memory.specs.Space.{Space, no_space, mark_of, IsIn, IsSpace, holds, bytes_in, put, grown}
+use Rattle.pi_memory.specs.Space.{Space, no_space, mark_of, IsIn, IsSpace, holds, bytes_in, with_bytes, with_zeros}
 
 -- a transaction: the space that it is on, and all spaces as they were when it began
 pub record Begun : Type 0 where
@@ -30,12 +30,12 @@ abbrev pub bytes_at : List Space → ℕ → ℕ → List ℕ
 bytes_at ss at n = bytes_in at n (space_at ss (holder ss at n))
 
 -- the spaces with other bytes from an address on
-abbrev pub stored : List Space → ℕ → List ℕ → List Space
-stored ss at ys = slice_set ss (holder ss at (length ys)) (put at ys (space_at ss (holder ss at (length ys))))
+abbrev pub with_bytes_at : List Space → ℕ → List ℕ → List Space
+with_bytes_at ss at ys = slice_set ss (holder ss at (length ys)) (with_bytes at ys (space_at ss (holder ss at (length ys))))
 
 -- the spaces with the mark of one of them n bytes higher
-abbrev pub bumped : List Space → ℕ → ℕ → List Space
-bumped ss k n = slice_set ss k (grown n (space_at ss k))
+abbrev pub with_zeros_in : List Space → ℕ → ℕ → List Space
+with_zeros_in ss k n = slice_set ss k (with_zeros n (space_at ss k))
 
 -- a transaction that is pending is on the space of that number
 abbrev pub IsOn : Option Begun → ℕ → Type 0

@@ -32,12 +32,12 @@ abbrev pub bytes_in : ℕ → ℕ → Space → List ℕ
 bytes_in at n s = take n (drop (at - s.base) s.bytes)
 
 -- the space with other bytes from an address on
-abbrev pub put : ℕ → List ℕ → Space → Space
-put at ys s = record s { bytes = take (at - s.base) s.bytes ++ (ys ++ drop (length ys) (drop (at - s.base) s.bytes)) }
+abbrev pub with_bytes : ℕ → List ℕ → Space → Space
+with_bytes at ys s = record s { bytes = take (at - s.base) s.bytes ++ (ys ++ drop (length ys) (drop (at - s.base) s.bytes)) }
 
 -- the space with its mark n bytes higher: the bytes up to there are 0
-abbrev pub grown : ℕ → Space → Space
-grown n s = record s { bytes = s.bytes ++ replicate n 0 }
+abbrev pub with_zeros : ℕ → Space → Space
+with_zeros n s = record s { bytes = s.bytes ++ replicate n 0 }
 
 -- what is true of each space
 pub record IsSpace (s : Space) : Type 0 where

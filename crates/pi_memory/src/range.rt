@@ -1,7 +1,7 @@
 // One space: the bytes below its mark, in a buffer with room for the whole range.
 
 ghost use Rattle.std.specs.Prelude.{◌≡◌, ◌+◌, ◌-◌, ◌^◌, ◌<◌, ◌≤◌, ◌↔◌, length, take, drop, IfOk, IsTrue};
-ghost use Rattle.pi_memory.specs.Space.{mark_of, apart, holds, bytes_in, put, grown};
+ghost use Rattle.pi_memory.specs.Space.{mark_of, apart, holds, bytes_in, with_bytes, with_zeros};
 
 use std::alloc::{AllocError, Global};
 use std::marker::{Model, PhantomData};
@@ -96,7 +96,7 @@ impl<'a> Range<'a> {
 
     pub fn put(&mut self, at: u32, bytes: &[u8])
         requires { IsTrue (holds at (length bytes.now) self.old) }
-        ensures { self.new ≡ put at bytes.now self.old }
+        ensures { self.new ≡ with_bytes at bytes.now self.old }
     {
         let start = (at - self.base) as usize;
         self.bytes[start..start + bytes.len()].copy_from_slice(bytes);
@@ -105,7 +105,7 @@ impl<'a> Range<'a> {
     /// Adds `n` bytes that are 0.
     pub fn grow(&mut self, n: u32)
         requires { mark_of self.old + n ≤ self.old.end }
-        ensures { self.new ≡ grown n self.old }
+        ensures { self.new ≡ with_zeros n self.old }
     {
         let long = self.bytes.len() + n as usize;
         match self.bytes.resize(long, 0) {

@@ -1,5 +1,5 @@
 -- The fields of instances, their order and what they begin with, and sizes behind a superclass, worked out by hand.
-use Rattle.std.proofs.Common.{◌≡◌, List, [], ◌∷◌, Some, None, refl}
+use Rattle.std.proofs.Common.{◌≡◌, ℕ, List, [], ◌∷◌, Some, None, refl}
 use Rattle.std.specs.Prelude.{true, false}
 use Rattle.pi_model.specs.declared.describe.FieldDesc.{FieldDesc}
 use Rattle.pi_model.specs.Program.{Program}
@@ -7,7 +7,7 @@ use Rattle.pi_model.specs.Values.{Instance, Array, Word, Long}
 use Rattle.pi_model.specs.Search.{in_class}
 use Rattle.pi_model.specs.Fields.{first_fields, new_instance, fields_above, field_place, is_subclass}
 use Rattle.pi_model.specs.Sizes.{object_bytes}
-use Rattle.pi_model.proofs.Samples.{object, a, b, c, i, int, long, boolean, byte, short, char, ints, class, interface, own, static, program}
+use Rattle.pi_model.proofs.Samples.{Hold, object, a, b, c, i, int, long, boolean, byte, short, char, ints, class, interface, own, static, program}
 
 -- Object; A with a static field, an int and a long; B below A with a reference, a static field and a boolean; C below
 -- Object with nothing
@@ -19,35 +19,18 @@ family = program (
     ∷ class c (Some object) [] [] []
     ∷ [])
 
--- order and first values
-
--- the first field of instances, behind a static one, has place 0
-first_place : field_place family (in_class 1 1) ≡ Some 0
-first_place = refl
-
--- the next one has place 1
-second_place : field_place family (in_class 1 2) ≡ Some 1
-second_place = refl
-
--- the fields of a class stand behind those of its superclass
-behind_the_superclass : field_place family (in_class 2 0) ≡ Some 2
-behind_the_superclass = refl
-
--- a static field before it does not count
-static_left_out : field_place family (in_class 2 2) ≡ Some 3
-static_left_out = refl
-
--- a static field has no place
-static_has_no_place : field_place family (in_class 2 1) ≡ None
-static_has_no_place = refl
-
--- nor has a field that is not there
-past_the_list : field_place family (in_class 2 3) ≡ None
-past_the_list = refl
-
--- nor a field of a class that is not there
-of_no_class : field_place family (in_class 4 0) ≡ None
-of_no_class = refl
+-- The fields of instances of a class stand in order, behind those of its superclass; static ones do not count. A static
+-- field, one that is not there and one of no class have no place.
+places : Hold (
+    (field_place family (in_class 1 1), Some 0)
+    ∷ (field_place family (in_class 1 2), Some 1)
+    ∷ (field_place family (in_class 2 0), Some 2)
+    ∷ (field_place family (in_class 2 2), Some 3)
+    ∷ (field_place family (in_class 2 1), None)
+    ∷ (field_place family (in_class 2 3), None)
+    ∷ (field_place family (in_class 4 0), None)
+    ∷ [])
+places = refl
 
 -- two fields come from the superclass
 two_above : fields_above family 2 ≡ 2
@@ -57,31 +40,18 @@ two_above = refl
 begin_as_zero : first_fields family 2 ≡ Word 0 ∷ Long 0 ∷ Word 0 ∷ Word 0 ∷ []
 begin_as_zero = refl
 
--- an instance of the superclass has the superclass's fields alone
-of_the_superclass : new_instance family 1 ≡ Instance 1 (Word 0 ∷ Long 0 ∷ [])
-of_the_superclass = refl
+-- an instance of the superclass has the superclass's fields alone, and one of a class without fields has none
+new_instances : Hold ((new_instance family 1, Instance 1 (Word 0 ∷ Long 0 ∷ [])) ∷ (new_instance family 3, Instance 3 []) ∷ [])
+new_instances = refl
 
--- an instance without fields
-without_fields : new_instance family 3 ≡ Instance 3 []
-without_fields = refl
-
--- subclasses
-
--- a class counts as its own subclass
-subclass_itself : is_subclass family 2 2 ≡ true
-subclass_itself = refl
-
--- the superclass of the superclass
-subclass_at_distance_two : is_subclass family 2 0 ≡ true
-subclass_at_distance_two = refl
-
--- a superclass is no subclass of what is below it
-superclass_is_none : is_subclass family 1 2 ≡ false
-superclass_is_none = refl
-
--- two classes below the same one
-siblings_are_none : is_subclass family 3 1 ≡ false
-siblings_are_none = refl
+-- a class counts as its own subclass and is one of those above it, but not of one below it or beside it
+subclasses : Hold (
+    (is_subclass family 2 2, true)
+    ∷ (is_subclass family 2 0, true)
+    ∷ (is_subclass family 1 2, false)
+    ∷ (is_subclass family 3 1, false)
+    ∷ [])
+subclasses = refl
 
 -- an interface has no subclasses
 interface_has_none : is_subclass (program (class object None [] [] [] ∷ interface i (Some object) [] [] ∷ class a (Some object) (i ∷ []) [] [] ∷ [])) 2 1 ≡ false
@@ -97,57 +67,31 @@ below fields = program (
     ∷ class b (Some a) [] fields []
     ∷ [])
 
+-- the size of an instance of B with those fields
+abbrev bytes_with : List FieldDesc → ℕ
+bytes_with fields = object_bytes (below fields) (Instance 2 [])
+
 -- the header, the long at 8 and the byte at 16 make 17 bytes, rounded up
 superclass_alone : object_bytes (below []) (Instance 1 []) ≡ 24
 superclass_alone = refl
 
--- a class without fields is as large as its superclass
-nothing_more : object_bytes (below []) (Instance 2 []) ≡ 24
-nothing_more = refl
-
--- one byte stands behind the superclass's full size
-one_byte : object_bytes (below (own byte ∷ [])) (Instance 2 []) ≡ 32
-one_byte = refl
-
--- one reference takes four bytes, rounded up
-one_reference : object_bytes (below (own object ∷ [])) (Instance 2 []) ≡ 32
-one_reference = refl
-
--- two references fill eight bytes
-two_references : object_bytes (below (own object ∷ own ints ∷ [])) (Instance 2 []) ≡ 32
-two_references = refl
-
--- a long behind two references needs no gap
-two_references_and_a_long : object_bytes (below (own long ∷ own object ∷ own ints ∷ [])) (Instance 2 []) ≡ 40
-two_references_and_a_long = refl
-
--- a long behind one reference begins four bytes later
-one_reference_and_a_long : object_bytes (below (own object ∷ own long ∷ [])) (Instance 2 []) ≡ 40
-one_reference_and_a_long = refl
-
--- an int does not fill the gap before the long
-gap_stays : object_bytes (below (own object ∷ own long ∷ own int ∷ [])) (Instance 2 []) ≡ 48
-gap_stays = refl
-
--- an int right behind a reference needs no gap
-reference_and_int : object_bytes (below (own object ∷ own int ∷ [])) (Instance 2 []) ≡ 32
-reference_and_int = refl
-
--- two fields of two bytes and four of one byte fill eight bytes
-shorts_and_bytes : object_bytes (below (own byte ∷ own short ∷ own boolean ∷ own byte ∷ own char ∷ own byte ∷ [])) (Instance 2 []) ≡ 32
-shorts_and_bytes = refl
-
--- one byte more needs eight more
-one_byte_too_many : object_bytes (below (own byte ∷ own short ∷ own boolean ∷ own byte ∷ own char ∷ own byte ∷ own byte ∷ [])) (Instance 2 []) ≡ 40
-one_byte_too_many = refl
-
--- a reference to 28, a long from 32, an int to 44, a short to 46, a byte to 47
-one_of_each : object_bytes (below (own byte ∷ own short ∷ own int ∷ own long ∷ own object ∷ [])) (Instance 2 []) ≡ 48
-one_of_each = refl
-
--- static fields take nothing
-statics_take_nothing : object_bytes (below (static long ∷ static object ∷ static int ∷ own byte ∷ [])) (Instance 2 []) ≡ 32
-statics_take_nothing = refl
+-- fields begin behind the superclass's full size, references first, then longs at a multiple of eight, and then without
+-- gaps ints, units and bytes, which do not fill the gap before the longs; static fields take nothing
+sizes : Hold (
+    (bytes_with [], 24)
+    ∷ (bytes_with (own byte ∷ []), 32)
+    ∷ (bytes_with (own object ∷ []), 32)
+    ∷ (bytes_with (own object ∷ own ints ∷ []), 32)
+    ∷ (bytes_with (own long ∷ own object ∷ own ints ∷ []), 40)
+    ∷ (bytes_with (own object ∷ own long ∷ []), 40)
+    ∷ (bytes_with (own object ∷ own long ∷ own int ∷ []), 48)
+    ∷ (bytes_with (own object ∷ own int ∷ []), 32)
+    ∷ (bytes_with (own byte ∷ own short ∷ own boolean ∷ own byte ∷ own char ∷ own byte ∷ []), 32)
+    ∷ (bytes_with (own byte ∷ own short ∷ own boolean ∷ own byte ∷ own char ∷ own byte ∷ own byte ∷ []), 40)
+    ∷ (bytes_with (own byte ∷ own short ∷ own int ∷ own long ∷ own object ∷ []), 48)
+    ∷ (bytes_with (static long ∷ static object ∷ static int ∷ own byte ∷ []), 32)
+    ∷ [])
+sizes = refl
 
 -- an array of arrays has four bytes for each element
 array_of_arrays : object_bytes (below []) (Array 15 (Word 0 ∷ Word 0 ∷ Word 0 ∷ [])) ≡ 32

@@ -3,7 +3,7 @@ use Rattle.std.proofs.Common.{◌≡◌, ◌≢◌, ℕ, zero, suc, ◌+◌, ◌
 use Rattle.std.specs.List.{All, list_all, position_from, position_or_len, list_any}
 use Rattle.std.specs.Option.{option_or}
 use Rattle.std.proofs.lemmas.Bool.{and_parts, cases_Bool, cases_lt, eqb-true, eqb-false, eq-eqb, lt-ltb, ltb-true, ne_eqb}
-use Rattle.std.proofs.lemmas.List.{get_or-set_same, get_or-set_other, take_more, take_at, length-take-le}
+use Rattle.std.proofs.lemmas.List.{get_or-set_same, get_or-set_other, take_more, length-take-le}
 use Rattle.std.proofs.lemmas.List.Elements.{filter_agree}
 use Rattle.std.proofs.lemmas.List.Quantifiers.{position-Some}
 use Rattle.std.proofs.lemmas.List.Sums.{fails_before_first, AllPass-from_list_all}
@@ -12,7 +12,7 @@ use Rattle.std.proofs.lemmas.Iterator.Adapters.{position_from-zero}
 use Rattle.pi_model.specs.declared.numbers.NameNo.{NameNo}
 use Rattle.pi_model.specs.declared.describe.ClassDesc.{ClassDesc}
 use Rattle.pi_model.specs.Program.{FilePart, Program, with_file, same_name, new_types}
-use Rattle.pi_model.specs.Uses.{name_below, names_below, class_below}
+use Rattle.pi_model.specs.Uses.{name_below, class_below}
 use Rattle.pi_model.specs.Index.{IsFirsts, first_set, type_name}
 
 position_from_push : {X : Type 0} (p : X → Bool) (i : ℕ) (xs : List X) (x : X) → position_from p i (xs ++ x ∷ []) ≡ option_or (position_from p i xs) (cond (p x) (Some (i + length xs)) None)
@@ -135,17 +135,6 @@ below_count n count h = ltb-true n.0 count h
 
 pub class_name_below : (d : ClassDesc) (count : ℕ) → IsTrue (class_below count d) → d.name.0 < count
 class_name_below d count h = below_count d.name count (and_parts (name_below count d.name) _ h).0
-
--- the same facts of lists that are equal
-pub names_below_as : (n m : ℕ) (xs ys : List NameNo) → n ≡ m → xs ≡ ys → IsTrue (names_below m ys) → IsTrue (names_below n xs)
-names_below_as n m xs ys a b h = rw (a, b) h
-
-pub classes_below_as : (n m : ℕ) (xs ys : List ClassDesc) → n ≡ m → xs ≡ ys → IsTrue (list_all (class_below m) ys) → IsTrue (list_all (class_below n) xs)
-classes_below_as n m xs ys a b h = rw (a, b) h
-
--- what is cut back to its old length is as it was
-pub cut_back : {X : Type 0} (xs ys zs ws : List X) (n : ℕ) → zs ≡ xs ++ ys → n ≡ length xs → ws ≡ take n zs → ws ≡ xs
-cut_back xs ys zs ws n a b c = c ∙ rw a (take_at xs ys n (sym b))
 
 -- a test that passes where another does on each element
 found_or_none : (p q : NameNo → Bool) → ((t : NameNo) → p t ≡ q t) → (i : ℕ) (xs : List NameNo) → is_none (position_from p i xs) ≡ not (list_any q xs)

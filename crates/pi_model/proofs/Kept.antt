@@ -1,5 +1,5 @@
 -- What every program keeps is kept when a file is added behind it.
-use Rattle.std.proofs.Common.{◌≡◌, ℕ, ◌+◌, ◌<◌, ◌≤◌, nat_le, ◌&&◌, not, cond, List, [], ◌∷◌, ◌++◌, length, filter, is_none, slice_index_or, ap, Bool, true, false, Option, None, Some, IsTrue, inl, inr, arith, refl, sym, ◌∙◌}
+use Rattle.std.proofs.Common.{◌≡◌, ℕ, ◌+◌, ◌<◌, ◌≤◌, nat_le, ◌&&◌, not, cond, List, [], ◌∷◌, ◌++◌, length, filter, Bool, true, false, Option, None, Some, IsTrue, inl, inr, arith, refl, sym, ◌∙◌}
 use Rattle.std.specs.List.{list_all, list_any}
 use Rattle.std.proofs.lemmas.Bool.{and_parts, and_from, or_parts, or_from, cases_Bool, ltb-true, lt-ltb, leb-true, le-leb, eqb-true, eq-eqb, not-true, not_from_false}
 use Rattle.std.proofs.lemmas.List.{length-append, length_push}
@@ -20,8 +20,6 @@ use Rattle.pi_model.specs.Distinct.{all_distinct}
 use Rattle.pi_model.specs.Uses.{name_below, names_below, optional_below, field_ref_below, method_ref_below, insn_below, line_below, catch_below, code_below, init_below, field_below, method_below, class_below}
 use Rattle.pi_model.specs.Program.{FilePart, Program, same_name, new_types, with_file, no_files, field_count, method_count, IsCounted}
 use Rattle.pi_model.specs.Valid.{of_file, of_files, part_below, IsProgram, FitsBehind}
-use Rattle.pi_model.specs.Index.{IsFirsts, type_name}
-use Rattle.pi_model.proofs.Firsts.{types_are}
 
 -- a test that passes wherever another does
 pub all_more : {X : Type 0} (p q : X → Bool) → ((x : X) → IsTrue (p x) → IsTrue (q x)) → (xs : List X) → IsTrue (list_all p xs) → IsTrue (list_all q xs)
@@ -245,7 +243,3 @@ kept_behind p names types classes k f =
 -- the same of the four lists that make up the new program
 pub kept_as : (p : Program) (names : List (List ℕ)) (types : List NameNo) (classes : List ClassDesc) (ns : List (List ℕ)) (ts : List NameNo) (ds : List ClassDesc) (fs : List FilePart) → IsProgram p → FitsBehind p names types classes → ns ≡ p.names ++ names → ts ≡ p.types ++ new_types p.types types → ds ≡ p.classes ++ classes → fs ≡ p.files ++ record { names_to = length p.names + length names; types = types } ∷ [] → IsProgram record { names = ns; types = ts; classes = ds; files = fs }
 kept_as p names types classes ns ts ds fs k f a b c d = rw (a, b, c, d) (kept_behind p names types classes k f)
-
--- the same where the new types were found by the slots
-pub kept_with : (p : Program) (slots : List (Option ℕ)) (names : List (List ℕ)) (types fresh : List NameNo) (classes : List ClassDesc) → IsFirsts type_name slots p.types → fresh ≡ filter (λ t. is_none (slice_index_or slots t.0 None)) types → IsProgram p → FitsBehind p names types classes → IsProgram record { names = p.names ++ names; types = p.types ++ fresh; classes = p.classes ++ classes; files = p.files ++ record { names_to = length p.names + length names; types = types } ∷ [] }
-kept_with p slots names types fresh classes firsts found k f = kept_as p names types classes _ (p.types ++ fresh) _ _ k f refl (types_are slots p.types types _ firsts (ap (λ v. p.types ++ v) found)) refl refl

@@ -6,8 +6,6 @@ pub mod Firsts
 pub mod Starts
 mod Examples
 mod ArithmeticExamples
-mod LongExamples
-mod ConditionExamples
 mod Samples
 mod SubtypeExamples
 mod SearchExamples

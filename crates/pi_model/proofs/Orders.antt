@@ -226,13 +226,6 @@ pub at_any : {T E P : Type 0} (r : Result T E) → P → OnOk r P
 at_any (Ok x) p = p
 at_any (Err e) p = _
 
--- the orders of two files, of which the one brings the first names and the other the rest
-pub AreOrders-two : (names : List (List ℕ)) (at : ℕ) (first second : List ℕ) → at ≤ length names → IsOrder (take at names) 0 at first → IsOrder names at (length names - at) second → AreOrders names 0 (first ∷ second ∷ [])
-AreOrders-two names at first second l a b =
-    let one : IsOrder names 0 (length first) first = rw (a.long) (rw (take-append-drop at names) at (IsOrder-append (take at names) (drop at names) 0 at first a)) in
-    let two : IsOrder names (0 + length first) (length second) second = let e : 0 + length first ≡ at = omega (arith, a.long) in rw (e, b.long) b in
-    (one, (two, omega (arith, a.long, b.long, l)))
-
 -- a text and itself, and two that differ
 same_itself : (a : List ℕ) → same_text a a ≡ true
 same_itself a = (bytes_eq-Decides a a).1 refl

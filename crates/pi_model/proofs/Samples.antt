@@ -1,5 +1,5 @@
--- Parts from which the examples build small programs.
-use Rattle.std.proofs.Common.{ℕ, List, [], ◌∷◌, Option, None}
+-- Parts from which the examples build small programs, and rows of examples.
+use Rattle.std.proofs.Common.{◌≡◌, ℕ, List, [], ◌∷◌, map, Option, None}
 use Rattle.std.specs.Prelude.{codes}
 use Rattle.pi_model.specs.declared.numbers.FileNo.{FileNo}
 use Rattle.pi_model.specs.declared.numbers.NameNo.{NameNo}
@@ -9,6 +9,14 @@ use Rattle.pi_model.specs.declared.describe.MethodDesc.{MethodDesc}
 use Rattle.pi_model.specs.declared.describe.Init.TheVariants.{Zero}
 use Rattle.pi_model.specs.declared.insn.MethodRef.{MethodRef}
 use Rattle.pi_model.specs.Program.{Program}
+
+-- what is computed, beside what it has to be
+abbrev pub Rows : Type 0 → Type 0
+Rows A = List (A × A)
+
+-- in each row both are the same
+abbrev pub Hold : {A : Type 0} → Rows A → Type 0
+Hold rows = map (λ row. row.0) rows ≡ map (λ row. row.1) rows
 
 -- the names by number: descriptors of classes, then of other types, then the names of members
 abbrev pub texts : List (List ℕ)

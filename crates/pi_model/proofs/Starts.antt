@@ -1,11 +1,11 @@
 -- For each class the number of its first member.
-use Rattle.std.proofs.Common.{◌≡◌, ℕ, zero, suc, ◌+◌, ◌<◌, ◌≤◌, List, [], ◌∷◌, ◌++◌, length, take, drop, sum_by, get_or, slice_get, Option, Some, None, IsSomeAnd, ◌-◌, ◌^◌, replicate, inl, inr, arith, refl, sym, ap, ◌∙◌}
+use Rattle.std.proofs.Common.{◌≡◌, ℕ, zero, suc, ◌+◌, ◌<◌, List, [], ◌∷◌, ◌++◌, length, take, drop, sum_by, get_or, slice_get, Option, Some, None, IsSomeAnd, ◌-◌, ◌^◌, replicate, inl, inr, arith, refl, sym, ap}
 use Rattle.std.proofs.lemmas.Bool.{cases_lt}
-use Rattle.std.proofs.lemmas.List.{take-append-drop, take_all, take_more, take_rest, length-take-le}
+use Rattle.std.proofs.lemmas.List.{take-append-drop, take_all, take_more, take_rest}
 use Rattle.std.proofs.lemmas.List.Sums.{sum_by-cons, sum_by_more, sum_by-take-drop}
 use Rattle.std.proofs.lemmas.Option.{slice_get-get_or}
 use Rattle.pi_model.specs.declared.describe.ClassDesc.{ClassDesc}
-use Rattle.pi_model.specs.Index.{Lookups, IsFirsts, starts_from}
+use Rattle.pi_model.specs.Index.{IsFirsts, starts_from}
 use Rattle.pi_model.specs.declared.numbers.NameNo.{NameNo}
 use Rattle.pi_model.specs.Search.{member_by, in_class}
 use Rattle.pi_model.proofs.Members.{member_back}
@@ -76,19 +76,8 @@ rest_total count ds k total all e a =
 pub rest_starts : (count : ClassDesc → ℕ) (ds : List ClassDesc) (k total : ℕ) (ss ms ts : List ℕ) → ss ≡ starts_from count 0 (take k ds) → total ≡ sum_by count (take k ds) → ms ≡ starts_from count total (take (length ds - k) (drop k ds)) → ts ≡ ss ++ ms → ts ≡ starts_from count 0 ds
 rest_starts count ds k total ss ms ts a b c d = starts_whole count ds k total ss ms ts a b (rw (take_rest ds k) at c) d
 
--- there are as many starts as classes
-pub starts_count : (count : ClassDesc → ℕ) (ds : List ClassDesc) (k : ℕ) (ss : List ℕ) → k ≤ length ds → ss ≡ starts_from count 0 (take k ds) → k ≡ length ss
-starts_count count ds k ss le e = sym (rw e (length-starts count 0 (take k ds) ∙ length-take-le k ds le))
-
--- what slots are after they have been made more
-pub room_made : (old new : List (Option ℕ)) (n : ℕ) → length old ≤ n → new ≡ take n old ++ replicate (n - length old) None → new ≡ old ++ replicate (n - length old) None
-room_made old new n le e = e ∙ ap (λ v. v ++ replicate (n - length old) None) (take_all n old le)
-
 pub firsts_made : {X : Type 0} (name : X → NameNo) (old slots new : List (Option ℕ)) (n : ℕ) (xs : List X) → slots ≡ new → new ≡ old ++ replicate n None → IsFirsts name old xs → IsFirsts name slots xs
 firsts_made name old slots new n xs a b k = rw (a, b) (firsts_room name old n xs k)
-
-pub lookups_same : (a b c d : List (Option ℕ)) (e f g h : List ℕ) (m n : ℕ) (o : List (List ℕ)) → a ≡ b → c ≡ d → e ≡ f → g ≡ h → let l : Lookups = record { type_slots = a; class_slots = c; method_starts = e; field_starts = g; methods = m; fields = n; orders = o } in let k : Lookups = record { type_slots = b; class_slots = d; method_starts = f; field_starts = h; methods = m; fields = n; orders = o } in l ≡ k
-lookups_same a b c d e f g h m n o p q r s = rw (p, q, r, s) refl
 
 pub firsts_same : {X : Type 0} (name : X → NameNo) (slots other : List (Option ℕ)) (xs : List X) → slots ≡ other → IsFirsts name other xs → IsFirsts name slots xs
 firsts_same name slots other xs e k = rw e k

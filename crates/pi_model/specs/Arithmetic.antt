@@ -39,8 +39,8 @@ abbrev pub long_result : BinOp → ℕ → ℕ → Option ℕ
 long_result op a b = binary_result w64 64 op a b
 
 -- the low bits of a word, so many at a width, extended by their sign
-abbrev pub extended : Width → ℕ → ℕ → ℕ
-extended w k n = cast_unsigned w32 (cast_signed w (n % 2 ^ k))
+abbrev pub sign_extension : Width → ℕ → ℕ → ℕ
+sign_extension w k n = cast_unsigned w32 (cast_signed w (n % 2 ^ k))
 
 -- the result of an operation on one operand; one on an int reads the low 32 bits
 abbrev pub unary_result : UnOp → ℕ → ℕ
@@ -50,9 +50,9 @@ unary_result NegLong n = (2 ^ 64 - n) % 2 ^ 64
 unary_result NotLong n = 2 ^ 64 - 1 - n
 unary_result IntToLong n = cast_unsigned w64 (cast_signed w32 (n % 2 ^ 32))
 unary_result LongToInt n = n % 2 ^ 32
-unary_result IntToByte n = extended w8 8 n
+unary_result IntToByte n = sign_extension w8 8 n
 unary_result IntToChar n = n % 2 ^ 16
-unary_result IntToShort n = extended w16 16 n
+unary_result IntToShort n = sign_extension w16 16 n
 
 -- -1, 0 or 1 as a word, by the order of two longs
 abbrev pub long_comparison : ℕ → ℕ → ℕ

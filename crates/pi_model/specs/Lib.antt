@@ -1,5 +1,6 @@
 -- The definitions over the plain program that contracts cite.
 pub mod Distinct
+pub mod Flags
 pub mod Index
 pub mod Uses
 pub mod Program

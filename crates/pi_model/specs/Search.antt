@@ -1,12 +1,13 @@
 -- Finding a class, a field and a method by name, as the rules of resolution of the virtual
 -- machine specification say.
-use Rattle.std.specs.Prelude.{ℕ, zero, suc, ◌+◌, ◌-◌, ◌==◌, ◌&&◌, nat_lt, bit_and, is_some, flat_map, List, [], ◌∷◌, ◌++◌, length, Option, Some, None, Bool, true, false, if◌then◌else◌, position, slice_get, option_map, option_and_then}
+use Rattle.std.specs.Prelude.{ℕ, zero, suc, ◌+◌, ◌-◌, ◌==◌, ◌&&◌, nat_lt, not, is_some, flat_map, List, [], ◌∷◌, ◌++◌, length, Option, Some, None, Bool, true, false, if◌then◌else◌, position, slice_get, option_map, option_and_then}
 use Rattle.pi_model.specs.declared.numbers.NameNo.{NameNo}
 use Rattle.pi_model.specs.declared.describe.ClassDesc.{ClassDesc}
 use Rattle.pi_model.specs.declared.describe.MethodDesc.{MethodDesc}
 use Rattle.pi_model.specs.declared.describe.FieldDesc.{FieldDesc}
 use Rattle.pi_model.specs.declared.insn.FieldRef.{FieldRef}
 use Rattle.pi_model.specs.declared.insn.MethodRef.{MethodRef}
+use Rattle.pi_model.specs.Flags.{is_private, is_static}
 use Rattle.pi_model.specs.Known.{JavaObject, descriptor_of}
 use Rattle.pi_model.specs.Texts.{is_named, units_of}
 use Rattle.pi_model.specs.Program.{Program, same_name, field_number, method_number, field_count, method_count}
@@ -125,9 +126,9 @@ first_in f (c ∷ cs) = or_else (f c) (first_in f cs)
 abbrev pub method_passing : Program → (MethodDesc → Bool) → MethodRef → ℕ → Option Member
 method_passing p test m c = option_map (in_class c) (option_and_then (λ (d : ClassDesc). position (λ x. test x && same_method x m) d.methods) (class_at p c))
 
--- a method that an interface hands down: neither static nor private
+-- a method that is handed down to subtypes: neither static nor private
 abbrev pub is_handed_down : MethodDesc → Bool
-is_handed_down x = (bit_and x.flags 8 == 0) && (bit_and x.flags 2 == 0)
+is_handed_down x = not (is_static x.flags) && not (is_private x.flags)
 
 -- the interfaces that a class lists
 abbrev pub faces_of : Program → ℕ → List NameNo

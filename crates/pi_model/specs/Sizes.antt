@@ -1,8 +1,9 @@
 -- How many bytes objects take, as they count against the limits on heap bytes. All of it is our own.
-use Rattle.std.specs.Prelude.{ℕ, zero, suc, ◌+◌, ◌-◌, ◌*◌, ◌/◌, ◌==◌, ◌||◌, List, length, Option, Some, None, Bool, false, if◌then◌else◌, slice_index, count_by, bit_and, option_map, unwrap_or}
+use Rattle.std.specs.Prelude.{ℕ, zero, suc, ◌+◌, ◌-◌, ◌*◌, ◌/◌, ◌==◌, ◌||◌, List, length, Option, Some, None, Bool, false, if◌then◌else◌, slice_index, count_by, not, option_map, unwrap_or}
 use Rattle.pi_model.specs.declared.numbers.NameNo.{NameNo}
 use Rattle.pi_model.specs.declared.describe.ClassDesc.{ClassDesc}
 use Rattle.pi_model.specs.declared.describe.FieldDesc.{FieldDesc}
+use Rattle.pi_model.specs.Flags.{is_static}
 use Rattle.pi_model.specs.Program.{Program}
 use Rattle.pi_model.specs.Texts.{units_of}
 use Rattle.pi_model.specs.Values.{Object, Instance, Array, Text}
@@ -19,13 +20,13 @@ width_of letter = if letter == 90 || letter == 66 then 1 else
     if letter == 67 || letter == 83 then 2 else
     if letter == 74 then 8 else 4
 
--- a header of sixteen bytes and that many elements, rounded up
-abbrev pub sized : ℕ → ℕ → ℕ
-sized width n = round_up (16 + width * n)
+-- the size of an array or a text: a header of sixteen bytes and that many elements, rounded up
+abbrev pub array_bytes : ℕ → ℕ → ℕ
+array_bytes width n = round_up (16 + width * n)
 
 -- a field that each instance has
 abbrev pub of_instances : FieldDesc → Bool
-of_instances f = bit_and f.flags 8 == 0
+of_instances f = not (is_static f.flags)
 
 -- the letter that a field's descriptor begins with
 abbrev pub letter_of : Program → FieldDesc → ℕ
@@ -75,5 +76,5 @@ class_bytes (suc n) p c = bytes_of p (class_bytes n p) (class_at p c)
 -- the size of an object
 abbrev pub object_bytes : Program → Object → ℕ
 object_bytes p (Instance c fields) = class_bytes (length p.classes) p c
-object_bytes p (Array ty items) = sized (width_of (slice_index (units_of p ty) 1)) (length items)
-object_bytes p (Text units) = sized 2 (length units)
+object_bytes p (Array ty items) = array_bytes (width_of (slice_index (units_of p ty) 1)) (length items)
+object_bytes p (Text units) = array_bytes 2 (length units)

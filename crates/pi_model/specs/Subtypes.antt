@@ -1,18 +1,15 @@
 -- Which descriptors are subtypes of which. They are compared as texts, since the component of an array may be a type
 -- that no file names. Restates the rules of subtypes among reference types of the Java language specification.
-use Rattle.std.specs.Prelude.{ℕ, zero, suc, ◌==◌, ◌&&◌, ◌||◌, not, bit_and, List, [], ◌∷◌, ◌++◌, length, slice_index, Option, Some, None, Bool, false, if◌then◌else◌, option_and_then}
+use Rattle.std.specs.Prelude.{ℕ, zero, suc, ◌==◌, ◌&&◌, ◌||◌, List, [], ◌∷◌, ◌++◌, length, slice_index, Option, Some, None, Bool, false, if◌then◌else◌, option_and_then}
 use Rattle.std.specs.List.{list_any}
 use Rattle.pi_model.specs.declared.numbers.NameNo.{NameNo}
 use Rattle.pi_model.specs.declared.describe.ClassDesc.{ClassDesc}
+use Rattle.pi_model.specs.Flags.{is_interface}
 use Rattle.pi_model.specs.Program.{Program}
 use Rattle.pi_model.specs.Texts.{same_text, is_named}
 use Rattle.pi_model.specs.Known.{JavaObject, Cloneable, Serializable, descriptor_of}
 use Rattle.pi_model.specs.Search.{class_at, class_of, class_named, parent_list}
 use Rattle.pi_model.specs.Sizes.{is_reference}
-
--- a class is an interface
-abbrev pub is_interface : ClassDesc → Bool
-is_interface d = not (bit_and d.flags 512 == 0)
 
 -- the types right above a class: its interfaces and its superclass
 abbrev pub right_above : ClassDesc → List NameNo
@@ -25,7 +22,7 @@ of_class test (Some d) = test d
 
 -- Object is above an interface, whatever the interface declares
 abbrev pub below_object : ClassDesc → List ℕ → Bool
-below_object d to = is_interface d && same_text (descriptor_of JavaObject) to
+below_object d to = is_interface d.flags && same_text (descriptor_of JavaObject) to
 
 -- the class of a name
 abbrev pub class_by_name : Program → NameNo → Option ClassDesc

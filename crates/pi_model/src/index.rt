@@ -1,7 +1,7 @@
 // The look-ups that a program keeps beside its lists: for each name the first type and the first class that have it,
 // and for each file the order of its names.
 
-ghost use Rattle.std.specs.Prelude.{◌≡◌, ◌+◌, ◌^◌, ◌<◌, ◌≤◌, [], None, length, take, sum_by, slice_index_or, IfOk, IsTrue, OnOk, OnErr};
+ghost use Rattle.std.specs.Prelude.{if◌then◌else◌, ◌≡◌, ◌++◌, ◌+◌, ◌-◌, ◌^◌, ◌<◌, ◌≤◌, [], None, is_ok, replicate, length, take, sum_by, slice_index_or, IfOk, IsTrue, OnOk, OnErr};
 ghost use Rattle.std.specs.List.{list_all};
 ghost use Rattle.pi_model.specs.Order.{AreOrders};
 ghost use Rattle.pi_model.specs.Uses.{names_below, class_below};
@@ -190,29 +190,50 @@ impl Index {
         let fresh = &classes[old_classes..];
         let (mut method_starts, methods) = method_starts_of(alloc, fresh, self.methods)?;
         let (mut field_starts, fields) = field_starts_of(alloc, fresh, self.fields)?;
-        let old_names = self.type_slots.len();
-        self.type_slots.resize(names, None)?;
-        if self.class_slots.resize(names, None).is_err() {
-            self.type_slots.truncate(old_names);
-            return Err(AllocError);
-        }
-        if self.method_starts.append(&mut method_starts).is_err() {
-            self.type_slots.truncate(old_names);
-            self.class_slots.truncate(old_names);
-            return Err(AllocError);
-        }
-        if self.field_starts.append(&mut field_starts).is_err() {
-            self.type_slots.truncate(old_names);
-            self.class_slots.truncate(old_names);
-            self.method_starts.truncate(old_classes);
-            return Err(AllocError);
-        }
+        grow_all(
+            &mut self.type_slots,
+            &mut self.class_slots,
+            names,
+            &mut self.method_starts,
+            &mut method_starts,
+            &mut self.field_starts,
+            &mut field_starts,
+        )?;
         self.methods = methods;
         self.fields = fields;
         mark_types(self.type_slots.as_mut_slice(), types, old_types);
         mark_classes(self.class_slots.as_mut_slice(), classes, old_classes);
         Ok(())
     }
+}
+
+/// Makes the slots as many as there are names and adds the starts, or does nothing: there is room in each list before
+/// the first grows.
+fn grow_all(
+    types: &mut Vec<Option<u32>>,
+    classes: &mut Vec<Option<u32>>,
+    names: usize,
+    methods: &mut Vec<u32>,
+    more_methods: &mut Vec<u32>,
+    fields: &mut Vec<u32>,
+    more_fields: &mut Vec<u32>,
+) -> Result<(), AllocError>
+    requires types { length types.old.items ≤ names }
+    requires classes { length classes.old.items ≤ names }
+    ensures types { types.new.items ≡ (if is_ok result then types.old.items ++ replicate (names - length types.old.items) None else types.old.items) }
+    ensures classes { classes.new.items ≡ (if is_ok result then classes.old.items ++ replicate (names - length classes.old.items) None else classes.old.items) }
+    ensures type_room { OnOk result (length types.new.items ≡ names) }
+    ensures class_room { OnOk result (length classes.new.items ≡ names) }
+    ensures methods { methods.new.items ≡ (if is_ok result then methods.old.items ++ more_methods.old.items else methods.old.items) }
+    ensures fields { fields.new.items ≡ (if is_ok result then fields.old.items ++ more_fields.old.items else fields.old.items) }
+{
+    classes.reserve(names - classes.len())?;
+    methods.reserve(more_methods.len())?;
+    fields.reserve(more_fields.len())?;
+    types.resize(names, None)?;
+    classes.resize(names, None)?;
+    methods.append(more_methods)?;
+    fields.append(more_fields)
 }
 
 fn slot_of(slots: &[Option<u32>], n: NameNo) -> Option<u32>

@@ -1,11 +1,10 @@
 // The program of a chain of files: its names, types, classes and members by number, and what each file brought.
 
-ghost use Rattle.std.specs.Prelude.{◌≡◌, ◌++◌, ◌∷◌, [], ◌≢◌, ℕ, ◌<◌, ◌≤◌, ◌^◌, length, sum_by, position, slice_get, slice_index_or, filter, option_map, is_none, None, Some, IfOk, IfSome, IfNone, IsSomeAnd, IsTrue, OnOk, OnErr};
+ghost use Rattle.std.specs.Prelude.{if◌then◌else◌, ◌≡◌, ◌++◌, ◌∷◌, [], ◌≢◌, ℕ, ◌<◌, ◌≤◌, ◌^◌, length, sum_by, position, slice_get, slice_index_or, filter, option_map, is_none, is_ok, None, Some, IfOk, IfSome, IfNone, IsSomeAnd, IsTrue, OnOk, OnErr};
 ghost use Rattle.std.specs.List.{All, list_all};
 ghost use Rattle.pi_model.specs.Program.{no_files, with_file, field_count, method_count, field_number, method_number, all_fields, all_methods};
 ghost use Rattle.pi_model.specs.Texts.{same_text, name_of};
-ghost use Rattle.pi_model.specs.Index.{IsIndexed};
-ghost use Rattle.pi_model.specs.Order.{AreOrders};
+ghost use Rattle.pi_model.specs.Index.{IsKept};
 ghost use Rattle.pi_model.specs.Uses.{class_below, names_below};
 ghost use Rattle.pi_model.specs.Valid.{FitsBehind, IsProgram};
 ghost use Rattle.pi_model.specs.Search.{class_of, type_of, class_at, in_class, method_of, field_of};
@@ -287,26 +286,13 @@ fn add_all(
     part: Part,
     index: &mut Index,
 ) -> Result<(), AllocError>
-    requires old { IsIndexed index.old (length names.old.items) types.old.items classes.old.items }
-    requires ordered { AreOrders names.old.items 0 index.old.orders }
-    requires few_names { length (names.old.items ++ more_names.old.items) < 2 ^ 32 }
-    requires few_types { length (types.old.items ++ more_types.old.items) < 2 ^ 32 }
-    requires few_classes { length (classes.old.items ++ more_classes.old.items) < 2 ^ 32 }
-    requires few_methods { sum_by method_count (classes.old.items ++ more_classes.old.items) < 2 ^ 32 }
-    requires few_fields { sum_by field_count (classes.old.items ++ more_classes.old.items) < 2 ^ 32 }
-    requires types { IsTrue (names_below (length (names.old.items ++ more_names.old.items)) (types.old.items ++ more_types.old.items)) }
-    requires classes { IsTrue (list_all (class_below (length (names.old.items ++ more_names.old.items))) (classes.old.items ++ more_classes.old.items)) }
-    ensures names { OnOk result (names.new.items ≡ names.old.items ++ more_names.old.items) }
-    ensures types { OnOk result (types.new.items ≡ types.old.items ++ more_types.old.items) }
-    ensures classes { OnOk result (classes.new.items ≡ classes.old.items ++ more_classes.old.items) }
-    ensures files { OnOk result (files.new.items ≡ files.old.items ++ part ∷ []) }
-    ensures indexed { OnOk result (IsIndexed index.new (length names.new.items) types.new.items classes.new.items) }
-    ensures ordered { OnOk result (AreOrders names.new.items 0 index.new.orders) }
-    ensures same_names { OnErr result (names.new.items ≡ names.old.items) }
-    ensures same_types { OnErr result (types.new.items ≡ types.old.items) }
-    ensures same_classes { OnErr result (classes.new.items ≡ classes.old.items) }
-    ensures same_files { OnErr result (files.new.items ≡ files.old.items) }
-    ensures same_index { OnErr result (index.new ≡ index.old) }
+    requires kept { IsKept record { names = names.old.items; types = types.old.items; classes = classes.old.items; files = files.old.items } index.old }
+    requires fits { IsProgram record { names = names.old.items ++ more_names.old.items; types = types.old.items ++ more_types.old.items; classes = classes.old.items ++ more_classes.old.items; files = files.old.items ++ part ∷ [] } }
+    ensures names { names.new.items ≡ (if is_ok result then names.old.items ++ more_names.old.items else names.old.items) }
+    ensures types { types.new.items ≡ (if is_ok result then types.old.items ++ more_types.old.items else types.old.items) }
+    ensures classes { classes.new.items ≡ (if is_ok result then classes.old.items ++ more_classes.old.items else classes.old.items) }
+    ensures files { files.new.items ≡ (if is_ok result then files.old.items ++ part ∷ [] else files.old.items) }
+    ensures kept { IsKept record { names = names.new.items; types = types.new.items; classes = classes.new.items; files = files.new.items } index.new }
 {
     let (old_names, old_types) = (names.len(), types.len());
     let (old_classes, old_files) = (classes.len(), files.len());
@@ -320,23 +306,23 @@ fn add_all(
         files,
         part,
     )?;
-    let extended = index.extend(
+    let added = index.extend(
         names.as_slice(),
         types.as_slice(),
         old_types,
         classes.as_slice(),
         old_classes,
     );
-    if extended.is_err() {
+    if added.is_err() {
         names.truncate(old_names);
         types.truncate(old_types);
         classes.truncate(old_classes);
         files.truncate(old_files);
     }
-    extended
+    added
 }
 
-/// Adds to all four lists, or to none.
+/// Adds to all four lists, or to none: there is room in each before the first grows.
 fn append_all(
     names: &mut Vec<Units>,
     more_names: &mut Vec<Units>,
@@ -347,32 +333,18 @@ fn append_all(
     files: &mut Vec<Part>,
     part: Part,
 ) -> Result<(), AllocError>
-    ensures names { OnOk result (names.new.items ≡ names.old.items ++ more_names.old.items) }
-    ensures types { OnOk result (types.new.items ≡ types.old.items ++ more_types.old.items) }
-    ensures classes { OnOk result (classes.new.items ≡ classes.old.items ++ more_classes.old.items) }
-    ensures files { OnOk result (files.new.items ≡ files.old.items ++ part ∷ []) }
-    ensures same_names { OnErr result (names.new.items ≡ names.old.items) }
-    ensures same_types { OnErr result (types.new.items ≡ types.old.items) }
-    ensures same_classes { OnErr result (classes.new.items ≡ classes.old.items) }
-    ensures same_files { OnErr result (files.new.items ≡ files.old.items) }
+    ensures names { names.new.items ≡ (if is_ok result then names.old.items ++ more_names.old.items else names.old.items) }
+    ensures types { types.new.items ≡ (if is_ok result then types.old.items ++ more_types.old.items else types.old.items) }
+    ensures classes { classes.new.items ≡ (if is_ok result then classes.old.items ++ more_classes.old.items else classes.old.items) }
+    ensures files { files.new.items ≡ (if is_ok result then files.old.items ++ part ∷ [] else files.old.items) }
 {
-    let (old_names, old_types, old_classes) = (names.len(), types.len(), classes.len());
+    types.reserve(more_types.len())?;
+    classes.reserve(more_classes.len())?;
+    files.reserve(1)?;
     names.append(more_names)?;
-    if types.append(more_types).is_err() {
-        names.truncate(old_names);
-        return Err(AllocError);
-    }
-    if classes.append(more_classes).is_err() {
-        names.truncate(old_names);
-        types.truncate(old_types);
-        return Err(AllocError);
-    }
-    if files.push(part).is_err() {
-        names.truncate(old_names);
-        types.truncate(old_types);
-        classes.truncate(old_classes);
-        return Err(AllocError);
-    }
+    types.append(more_types)?;
+    classes.append(more_classes)?;
+    files.push_reserved(part);
     Ok(())
 }
 

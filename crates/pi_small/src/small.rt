@@ -3,10 +3,11 @@
 
 ghost use Rattle.std.specs.Prelude.{◌≡◌};
 ghost use Rattle.std.specs.List.{list_all};
+ghost use Rattle.pi_model.specs.Flags.{is_static};
 ghost use Rattle.pi_model.specs.Program.{same_name};
 ghost use Rattle.pi_model.specs.Search.{same_names};
 ghost use Rattle.pi_model.specs.Texts.{same_text};
-ghost use Rattle.pi_duty.specs.Small.{is_plain, is_plain_text, is_static, is_zero, field_fits, is_print, one_below, names_own, insn_fits, line_fits, insn_units, lies, is_return, ends_in_return, code_fits, method_fits, main_fits, clinit_fits, methods_fit, parent_fits, class_fits, one_fits, is_small};
+ghost use Rattle.pi_duty.specs.Small.{is_plain, is_plain_text, is_zero, field_fits, is_print, one_below, names_own, insn_fits, line_fits, insn_units, lies, is_return, ends_in_return, code_fits, method_fits, main_fits, clinit_fits, methods_fit, parent_fits, class_fits, one_fits, is_small};
 
 use crate::first_file::{CLINIT, INT, MAIN, OBJECT, OUT, PRINT, STRINGS, VOID};
 use pi_model::describe::{ClassDesc, Code, FieldDesc, Init, Line, MethodDesc};

@@ -6,15 +6,16 @@ use Rattle.std.specs.List.{list_all, list_any}
 use Rattle.pi_model.specs.declared.describe.ClassDesc.{ClassDesc}
 use Rattle.pi_model.specs.declared.describe.FieldDesc.{FieldDesc}
 use Rattle.pi_model.specs.declared.reason.ClassState.TheVariants.{Fresh, Done}
+use Rattle.pi_model.specs.Flags.{is_static}
 use Rattle.pi_model.specs.Program.{same_name, method_number}
 use Rattle.pi_model.specs.Values.{Word}
-use Rattle.pi_model.specs.Sizes.{sized, width_of}
+use Rattle.pi_model.specs.Sizes.{array_bytes, width_of}
 use Rattle.pi_model.specs.Texts.{same_text, is_named, name_of, units_of}
 use Rattle.pi_model.specs.Fields.{first_value}
 use Rattle.pi_model.specs.Known.{descriptor_of}
 use Rattle.pi_format.specs.Core.{core_names, int_name, object_name, out_name}
 use Rattle.pi_model.specs.Distinct.{all_distinct}
-use Rattle.pi_duty.specs.Small.{field_fits, has_no_value, is_static, has_text}
+use Rattle.pi_duty.specs.Small.{field_fits, has_no_value, has_text}
 use Rattle.pi_duty.specs.Shape.{small_chain, Brought}
 use Rattle.pi_model.specs.declared.numbers.NameNo.{NameNo}
 use Rattle.pi_top.proofs.Lookups.{ClassIs}
@@ -24,7 +25,7 @@ use Rattle.pi_top.proofs.Roles.{same_name-is}
 use Rattle.pi_top.proofs.Words.{words_of}
 
 -- an array without elements has a header alone
-empty_array : (w : ℕ) → sized w 0 ≡ 16
+empty_array : (w : ℕ) → array_bytes w 0 ≡ 16
 empty_array w = let z : w * 0 ≡ 0 = omega arith in rw z refl
 
 module _ (new : Brought) (d : ClassDesc) where

@@ -7,10 +7,11 @@ use Rattle.pi_model.specs.declared.numbers.NameNo.{NameNo}
 use Rattle.pi_model.specs.declared.describe.ClassDesc.{ClassDesc}
 use Rattle.pi_model.specs.declared.describe.MethodDesc.{MethodDesc}
 use Rattle.pi_model.specs.declared.describe.Code.{Code}
+use Rattle.pi_model.specs.Flags.{is_static}
 use Rattle.pi_model.specs.Program.{same_name}
 use Rattle.pi_model.specs.Search.{same_names}
 use Rattle.pi_format.specs.Core.{main_name, clinit_name, void_name, strings_name, core_names}
-use Rattle.pi_duty.specs.Small.{is_static, line_fits, lies, is_empty, ends_in_return, code_fits, method_fits, main_fits, clinit_fits, methods_fit}
+use Rattle.pi_duty.specs.Small.{line_fits, lies, is_empty, ends_in_return, code_fits, method_fits, main_fits, clinit_fits, methods_fit}
 use Rattle.pi_duty.specs.Shape.{small_chain, Brought}
 use Rattle.pi_machine.specs.Start.{is_main}
 use Rattle.pi_machine.specs.Initialisation.{is_clinit}

@@ -15,7 +15,7 @@ use Rattle.pi_format.specs.Rules.Descriptors.{is_void}
 use Rattle.pi_format.specs.Rules.Strings.{string_units, type_units}
 use Rattle.pi_format.specs.Rules.Members.{proto_entry, member_entry}
 use Rattle.pi_format.specs.Rules.Classes.{class_entry}
-use Rattle.pi_format.specs.Rules.Flags.{is_private, is_static, is_native, is_interface, is_abstract, is_flagged_constructor}
+use Rattle.pi_model.specs.Flags.{is_private, is_static, is_native, is_interface, is_abstract, is_flagged_constructor}
 use Rattle.pi_format.specs.Rules.Lowest.{lowest_from}
 use Rattle.pi_format.specs.Rules.Rows.{MemberRow, readable, rows_from}
 

@@ -11,7 +11,7 @@ use Rattle.pi_format.specs.Rules.Header.{unless}
 use Rattle.pi_format.specs.Rules.Descriptors.{words_of_type}
 use Rattle.pi_format.specs.Rules.Strings.{type_units}
 use Rattle.pi_format.specs.Rules.Members.{proto_entry}
-use Rattle.pi_format.specs.Rules.Flags.{is_static}
+use Rattle.pi_model.specs.Flags.{is_static}
 use Rattle.pi_format.specs.Rules.Lowest.{lowest_from, lowest_of}
 use Rattle.pi_format.specs.Rules.Rows.{MemberRow, readable}
 use Rattle.pi_format.specs.Rules.ClassData.{method_proto, rows_of, methods_in}

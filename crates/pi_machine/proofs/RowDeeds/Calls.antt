@@ -21,7 +21,7 @@ use Rattle.pi_machine.specs.Operands.{Deeds, registers_of}
 use Rattle.pi_machine.specs.Throwing.{throws, next_made, is_of_type}
 use Rattle.pi_machine.specs.Codes.{code_of}
 use Rattle.pi_machine.specs.Natives.{Native, Outcome, Gives, Fails, native_does}
-use Rattle.pi_machine.specs.Rows.Calls.{argument_kinds, arguments_fit, entry_frame, calls_frame, native_ends, native_at, is_abstract, enters_method, call_row, dispatch_from, receiver_class, virtual_row, code_class, interface_row, with_receiver, invoked, with_arguments, invoke_row}
+use Rattle.pi_machine.specs.Rows.Calls.{argument_kinds, arguments_fit, entry_frame, calls_frame, native_ends, native_at, is_abstract_method, enters_method, call_row, dispatch_from, receiver_class, virtual_row, code_class, interface_row, with_receiver, invoked, with_arguments, invoke_row}
 use Rattle.pi_machine.proofs.RowDeeds.Words.{Does, RowFacts, ValuedLists, ValuedCalls, stuck, these, either, if_found, by_ref, registers_values, thrown}
 use Rattle.pi_machine.proofs.RowDeeds.Natives.{AllBefore, native_deeds}
 
@@ -69,7 +69,7 @@ module _ {p : Program} {s : State} {f : Frame} {V : Option Ref → Value → Typ
   call_deeds : (units : ℕ) (args : List Value) (i : Option Member) → EachOf (V None) args → Does All (call_row p s f units args i)
   call_deeds units args None x = thrown g k AbstractMethod
   call_deeds units args (Some i) x =
-      either (is_abstract (method_at p i)) (thrown g k AbstractMethod) (enter_deeds units (method_no_of p i) args (native_at p i) x)
+      either (is_abstract_method (method_at p i)) (thrown g k AbstractMethod) (enter_deeds units (method_no_of p i) args (native_at p i) x)
 
   virtual_deeds : (units : ℕ) (m : MethodRef) (args : List Value) (r : Ref) → EachOf (V None) args
       → Does All (virtual_row p s f units m args r)

@@ -1,6 +1,6 @@
 -- Calls: how the method is found, the tests of the receiver, natives, and frames. Restates the bytecode page and,
 -- for the errors of a call, the linking chapter of the virtual machine specification.
-use Rattle.std.specs.Prelude.{ℕ, ◌-◌, ◌==◌, ◌&&◌, not, bit_and, List, [], ◌∷◌, ◌++◌, length, map, replicate, slice_index, Option, Some, None, Bool, true, false, if◌then◌else◌, option_map, option_and_then}
+use Rattle.std.specs.Prelude.{ℕ, ◌-◌, ◌==◌, ◌&&◌, List, [], ◌∷◌, ◌++◌, length, map, replicate, slice_index, Option, Some, None, Bool, true, false, if◌then◌else◌, option_map, option_and_then}
 use Rattle.pi_model.specs.declared.numbers.NameNo.{NameNo}
 use Rattle.pi_model.specs.declared.describe.ClassDesc.{ClassDesc}
 use Rattle.pi_model.specs.declared.describe.MethodDesc.{MethodDesc}
@@ -10,6 +10,7 @@ use Rattle.pi_model.specs.declared.insn.How.{How}
 use Rattle.pi_model.specs.declared.insn.How.TheVariants.{Virtual, Super, Direct, Static, Interface}
 use Rattle.pi_model.specs.declared.insn.Kind.{Kind}
 use Rattle.pi_model.specs.declared.insn.Kind.TheVariants as kind
+use Rattle.pi_model.specs.Flags.{is_abstract}
 use Rattle.pi_model.specs.Program.{Program}
 use Rattle.pi_model.specs.Known.{JavaObject, NullPointer, AbstractMethod, IncompatibleClassChange, descriptor_of}
 use Rattle.pi_model.specs.Texts.{units_of, same_text}
@@ -84,9 +85,9 @@ abbrev pub native_at : Program → Member → Option Native
 native_at p i = native_in p (class_at p i.class) (method_at p i)
 
 -- a method is abstract
-abbrev pub is_abstract : Option MethodDesc → Bool
-is_abstract None = false
-is_abstract (Some m) = not (bit_and m.flags 1024 == 0)
+abbrev pub is_abstract_method : Option MethodDesc → Bool
+is_abstract_method None = false
+is_abstract_method (Some m) = is_abstract m.flags
 
 -- the call of a method by its number: a native, or a frame of its code
 abbrev pub enters_method : Program → State → Frame → ℕ → ℕ → List Value → Option Native → Deeds
@@ -97,7 +98,7 @@ enters_method p s f units m args None = calls_frame (entry_frame m (code_of p m)
 abbrev pub call_row : Program → State → Frame → ℕ → List Value → Option Member → Deeds
 call_row p s f units args None = throws p s AbstractMethod
 call_row p s f units args (Some i) =
-    if is_abstract (method_at p i) then throws p s AbstractMethod
+    if is_abstract_method (method_at p i) then throws p s AbstractMethod
     else enters_method p s f units (method_no_of p i) args (native_at p i)
 
 -- the method that a search from a class upward reaches

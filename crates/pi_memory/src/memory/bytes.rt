@@ -2,7 +2,7 @@
 
 ghost use Rattle.std.specs.Prelude.{◌≡◌, ◌%◌, ◌≤◌, length};
 ghost use Rattle.byteorder.specs.Endian.{little_number, little_bytes};
-ghost use Rattle.pi_memory.specs.Memory.{holder, bytes_at, stored, IsBelow, IsOn};
+ghost use Rattle.pi_memory.specs.Memory.{holder, bytes_at, with_bytes_at, IsBelow, IsOn};
 
 use crate::memory::Memory;
 use byteorder::{ByteOrder, LittleEndian};
@@ -56,7 +56,7 @@ impl<'a> Memory<'a> {
         requires short { length bytes.now ≤ 8 }
         requires below { IsBelow self.old.spaces at.0 (length bytes.now) }
         requires inside { IsOn self.old.undo (holder self.old.spaces at.0 (length bytes.now)) }
-        ensures stored { self.new.spaces ≡ stored self.old.spaces at.0 bytes.now }
+        ensures stored { self.new.spaces ≡ with_bytes_at self.old.spaces at.0 bytes.now }
         ensures pending { self.new.undo ≡ self.old.undo }
     {
         let k = self.holder(at, bytes.len() as u32);
@@ -67,7 +67,7 @@ impl<'a> Memory<'a> {
     pub fn write8(&mut self, at: Addr, v: u8)
         requires below { IsBelow self.old.spaces at.0 1 }
         requires inside { IsOn self.old.undo (holder self.old.spaces at.0 1) }
-        ensures stored { self.new.spaces ≡ stored self.old.spaces at.0 (little_bytes 1 v) }
+        ensures stored { self.new.spaces ≡ with_bytes_at self.old.spaces at.0 (little_bytes 1 v) }
         ensures pending { self.new.undo ≡ self.old.undo }
     {
         self.write(at, &[v]);
@@ -78,7 +78,7 @@ impl<'a> Memory<'a> {
         requires aligned { at.0 % 2 ≡ 0 }
         requires below { IsBelow self.old.spaces at.0 2 }
         requires inside { IsOn self.old.undo (holder self.old.spaces at.0 2) }
-        ensures stored { self.new.spaces ≡ stored self.old.spaces at.0 (little_bytes 2 v) }
+        ensures stored { self.new.spaces ≡ with_bytes_at self.old.spaces at.0 (little_bytes 2 v) }
         ensures pending { self.new.undo ≡ self.old.undo }
     {
         self.write(at, &v.to_le_bytes());
@@ -89,7 +89,7 @@ impl<'a> Memory<'a> {
         requires aligned { at.0 % 4 ≡ 0 }
         requires below { IsBelow self.old.spaces at.0 4 }
         requires inside { IsOn self.old.undo (holder self.old.spaces at.0 4) }
-        ensures stored { self.new.spaces ≡ stored self.old.spaces at.0 (little_bytes 4 v) }
+        ensures stored { self.new.spaces ≡ with_bytes_at self.old.spaces at.0 (little_bytes 4 v) }
         ensures pending { self.new.undo ≡ self.old.undo }
     {
         self.write(at, &v.to_le_bytes());
@@ -100,7 +100,7 @@ impl<'a> Memory<'a> {
         requires aligned { at.0 % 8 ≡ 0 }
         requires below { IsBelow self.old.spaces at.0 8 }
         requires inside { IsOn self.old.undo (holder self.old.spaces at.0 8) }
-        ensures stored { self.new.spaces ≡ stored self.old.spaces at.0 (little_bytes 8 v) }
+        ensures stored { self.new.spaces ≡ with_bytes_at self.old.spaces at.0 (little_bytes 8 v) }
         ensures pending { self.new.undo ≡ self.old.undo }
     {
         self.write(at, &v.to_le_bytes());

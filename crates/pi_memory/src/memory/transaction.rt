@@ -2,7 +2,7 @@
 
 ghost use Rattle.std.specs.Prelude.{◌≡◌, ◌+◌, ◌%◌, ◌<◌, ◌≤◌, ◌↔◌, length, Some, None, IfSome, IfNone, IsSome, IsNone, IsSomeAnd, OnOk, OnErr, OnSome};
 ghost use Rattle.pi_memory.specs.Space.{mark_of};
-ghost use Rattle.pi_memory.specs.Memory.{space_at, bumped, IsOn};
+ghost use Rattle.pi_memory.specs.Memory.{space_at, with_zeros_in, IsOn};
 
 use crate::memory::{Memory, Saved};
 use pi_model::numbers::{Addr, SpaceNo};
@@ -29,7 +29,7 @@ impl<'a> Memory<'a> {
         ensures none { IsNone result ↔ ((space_at self.old.spaces s.0).end < mark_of (space_at self.old.spaces s.0) + n) }
         ensures room { OnSome result (mark_of (space_at self.old.spaces s.0) + n ≤ (space_at self.old.spaces s.0).end) }
         ensures place { IfSome result (λ at. at.0 ≡ mark_of (space_at self.old.spaces s.0)) }
-        ensures bumped { OnSome result (self.new.spaces ≡ bumped self.old.spaces s.0 n) }
+        ensures bumped { OnSome result (self.new.spaces ≡ with_zeros_in self.old.spaces s.0 n) }
         ensures stands { IfNone result (self.new.spaces ≡ self.old.spaces) }
         ensures pending { self.new.undo ≡ self.old.undo }
     {

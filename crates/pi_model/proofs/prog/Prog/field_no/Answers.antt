@@ -13,23 +13,14 @@ pub overflow_add-result : goal.overflow_add-result
 overflow_add-result c =
     let here = rw (← c.self.view_is) at c.requires in
     let before = c.field_start.ensures ∙ start_is field_count c.self.inside.classes.items c.self.inside.index.field_starts c.args.c.0 c.self.invariant.index.field_starts (some_within _ _ c.args.c.0 here) in
-    let few = c.self.invariant.program.counted.fields in
-    omega (arith, below_all field_count c.self.inside.classes.items c.args.c.0 c.args.i here, before, few)
+    omega (arith, below_all field_count c.self.inside.classes.items c.args.c.0 c.args.i here, before, c.self.invariant.program.counted.fields)
 
-pub returns-clause-number : goal.returns-clause-number
-returns-clause-number c =
+pub returns : goal.returns
+returns c =
     let here = rw (← c.self.view_is) at c.requires in
     let before = c.field_start.ensures ∙ start_is field_count c.self.inside.classes.items c.self.inside.index.field_starts c.args.c.0 c.self.invariant.index.field_starts (some_within _ _ c.args.c.0 here) in
-    rw (← c.self.view_is) (omega (arith, before))
-
-pub returns-clause-member : goal.returns-clause-member
-returns-clause-member c =
-    let here = rw (← c.self.view_is) at c.requires in
-    let before = c.field_start.ensures ∙ start_is field_count c.self.inside.classes.items c.self.inside.index.field_starts c.args.c.0 c.self.invariant.index.field_starts (some_within _ _ c.args.c.0 here) in
-    rw (← c.self.view_is) (member_back field_count c.self.inside.classes.items 0 c.args.c.0 c.args.i _ _ here (omega (arith, before)) (omega arith))
-
-pub returns-clause-below : goal.returns-clause-below
-returns-clause-below c =
-    let here = rw (← c.self.view_is) at c.requires in
-    let before = c.field_start.ensures ∙ start_is field_count c.self.inside.classes.items c.self.inside.index.field_starts c.args.c.0 c.self.invariant.index.field_starts (some_within _ _ c.args.c.0 here) in
-    rw (← c.self.view_is) (omega (arith, below_all field_count c.self.inside.classes.items c.args.c.0 c.args.i here, before))
+    rw (← c.self.view_is) (record {
+      number = omega (arith, before);
+      member = member_back field_count c.self.inside.classes.items 0 c.args.c.0 c.args.i _ _ here (omega (arith, before)) (omega arith);
+      below = omega (arith, below_all field_count c.self.inside.classes.items c.args.c.0 c.args.i here, before);
+    })

@@ -5,6 +5,9 @@ use Rattle.std.specs.Prelude.{ℕ, ◌==◌, bit_and, Bool}
 abbrev pub has_flag : ℕ → ℕ → Bool
 has_flag flag flags = bit_and flags flag == flag
 
+abbrev pub is_public : ℕ → Bool
+is_public flags = has_flag 0x1 flags
+
 abbrev pub is_private : ℕ → Bool
 is_private flags = has_flag 0x2 flags
 
