@@ -1,6 +1,6 @@
 -- Worked examples of initialisation: which classes are initialised, when, in which order, and in how many steps.
-use Rattle.std.proofs.Common.{Some, None, ◌≡◌, ℕ, List, [], ◌∷◌, ◌++◌, refl}
-use Rattle.std.specs.Prelude.{codes, replicate, slice_get}
+use Rattle.std.proofs.Common.{Some, None, Option, ◌≡◌, ℕ, List, [], ◌∷◌, ◌++◌, refl}
+use Rattle.std.specs.Prelude.{codes, option_and_then, replicate, slice_get}
 use Rattle.pi_model.specs.declared.reason.ClassState.{ClassState}
 use Rattle.pi_model.specs.declared.reason.ClassState.TheVariants.{Fresh, InProgress, Done}
 use Rattle.pi_model.specs.declared.describe.ClassDesc.{ClassDesc}
@@ -17,10 +17,10 @@ use Rattle.pi_model.specs.Program.{Program, with_file}
 use Rattle.pi_model.specs.Values.{Lit, Cls, Word, Long, At, Array}
 use Rattle.pi_machine.specs.State.{State, Made, Touched, ValuesSet}
 use Rattle.pi_machine.specs.Deeds.{Saw, OfStatus, Touch, SetStatic, SetPhase}
-use Rattle.pi_machine.specs.Step.{deeds_of}
-use Rattle.pi_machine.specs.Start.{first_state}
+use Rattle.pi_machine.specs.Step.{deeds_of, after_steps}
+use Rattle.pi_machine.specs.Start.{first_state, start_state}
 use Rattle.pi_machine.specs.Ends.{Returned}
-use Rattle.pi_machine.proofs.Examples.{outcome, Outcomes, ends_with, prints_in, dies}
+use Rattle.pi_machine.proofs.Examples.{Same, outcome, Outcomes, ends_with, prints_in, dies}
 use Rattle.pi_machine.proofs.Sample.{chain, class, object, byte, code, handler, method, instance_field, string, class_class, throwable, system, no, int, long, void, field, field_ref, method_ref, main_method, print, print_long, print_text, wide, finish}
 use Rattle.pi_machine.proofs.Layouts.{names, tried, divides, t, a, b, i, j, x, y, f, hi, z, a_array, with_x, starts, below, having, shows, get_x, put_x, f_method, call_f, main_and, Sees}
 
@@ -212,28 +212,25 @@ unfolding outcome
 statics_of_classes = refl
 
 -- The status of A along a run that uses it first in its fifth step and initialises it in seven.
-abbrev StatusOfA : ℕ → ClassState → Type 0
-StatusOfA steps status = Sees (main_and (get_x 0 a ∷ ReturnVoid ∷ []) (having a (shows 1) ∷ [])) (λ (s : State). slice_get s.statuses 30) steps (Some status)
+abbrev reads_a : Program
+reads_a = main_and (get_x 0 a ∷ ReturnVoid ∷ []) (having a (shows 1) ∷ [])
 
--- fresh before its first use
-fresh_before : StatusOfA 4 Fresh
-unfolding outcome
-fresh_before = refl
+abbrev status_of_a : ℕ → Option ClassState
+status_of_a steps = option_and_then (λ (s : State). slice_get s.statuses 30) (after_steps reads_a steps (start_state reads_a 12 []))
 
--- in progress from then on
-in_progress_from : StatusOfA 5 InProgress
+-- the status of A
+statuses_of_a : Same (
+    -- fresh before its first use
+    (status_of_a 4, Some Fresh)
+    -- in progress from then on
+    ∷ (status_of_a 5, Some InProgress)
+    -- until its initialiser has returned
+    ∷ (status_of_a 10, Some InProgress)
+    -- and done when its record goes
+    ∷ (status_of_a 11, Some Done)
+    ∷ [])
 unfolding outcome
-in_progress_from = refl
-
--- until its initialiser has returned
-in_progress_to : StatusOfA 10 InProgress
-unfolding outcome
-in_progress_to = refl
-
--- and done when its record goes
-done_after : StatusOfA 11 Done
-unfolding outcome
-done_after = refl
+statuses_of_a = refl
 
 -- The start classes are done: the first 26 classes here. The interfaces Cloneable and Serializable, System and T are fresh.
 start_classes_done : (first_state (main_and (ReturnVoid ∷ []) [])).statuses ≡ (replicate 26 Done ++ replicate 4 Fresh)

@@ -1,5 +1,5 @@
 -- Branches, switches and the halves of longs. Four steps come before main's first instruction.
-use Rattle.std.proofs.Common.{◌≡◌, Some, ℕ, ◌+◌, List, [], ◌∷◌, ◌++◌, refl}
+use Rattle.std.proofs.Common.{Some, ℕ, ◌+◌, List, [], ◌∷◌, ◌++◌, refl}
 use Rattle.std.specs.Prelude.{codes}
 use Rattle.pi_model.specs.declared.insn.Insn.{Insn}
 use Rattle.pi_model.specs.declared.insn.Insn.TheVariants.{Move, Const, ConstWide, ConstString, ConstClass, NewInstance, Goto, Switch, If, IfZ, Binary, BinaryLit, ReturnVoid}
@@ -13,7 +13,7 @@ use Rattle.pi_model.specs.Known.{descriptor_of}
 use Rattle.pi_model.specs.Values.{Word, Low, High}
 use Rattle.pi_machine.specs.Deeds.{SetReg, Jump}
 use Rattle.pi_machine.specs.Rows.{row}
-use Rattle.pi_machine.proofs.Examples.{outcome, Outcomes, prints}
+use Rattle.pi_machine.proofs.Examples.{Same, outcome, Outcomes, prints}
 use Rattle.pi_machine.proofs.Sample.{no, object, string, core, print, print_long, standing, nothing_made}
 
 -- at an address: 1 is printed where the branch is taken, else 0; that are three steps or four
@@ -133,20 +133,17 @@ switched : Outcomes (
 unfolding outcome
 switched = refl
 
--- a long stands in two registers, its low half first
-halves : row core nothing_made (standing (Word 0 ∷ Word 0 ∷ Word 0 ∷ [])) 5 (ConstWide 1 0x300000002) ≡ Some (SetReg 1 (Low 2) ∷ SetReg 2 (High 3) ∷ Jump 5 ∷ [])
+-- the halves of longs
+halves : Same (
+    -- a long stands in two registers, its low half first
+    (row core nothing_made (standing (Word 0 ∷ Word 0 ∷ Word 0 ∷ [])) 5 (ConstWide 1 0x300000002), Some (SetReg 1 (Low 2) ∷ SetReg 2 (High 3) ∷ Jump 5 ∷ []))
+    -- the greatest long has a low half of all ones
+    ∷ (row core nothing_made (standing (Word 0 ∷ Word 0 ∷ [])) 2 (ConstWide 0 0x7fffffffffffffff), Some (SetReg 0 (Low 0xffffffff) ∷ SetReg 1 (High 0x7fffffff) ∷ Jump 2 ∷ []))
+    -- a move of a long sets two registers, also where they overlap with those it comes from
+    ∷ (row core nothing_made (standing (Low 2 ∷ High 3 ∷ Word 0 ∷ [])) 1 (Move kind.Wide 1 0), Some (SetReg 1 (Low 2) ∷ SetReg 2 (High 3) ∷ Jump 1 ∷ []))
+    ∷ [])
 unfolding descriptor_of
 halves = refl
-
--- the greatest long has a low half of all ones
-halves_of_greatest : row core nothing_made (standing (Word 0 ∷ Word 0 ∷ [])) 2 (ConstWide 0 0x7fffffffffffffff) ≡ Some (SetReg 0 (Low 0xffffffff) ∷ SetReg 1 (High 0x7fffffff) ∷ Jump 2 ∷ [])
-unfolding descriptor_of
-halves_of_greatest = refl
-
--- a move of a long sets two registers, also where they overlap with those it comes from
-moves_halves : row core nothing_made (standing (Low 2 ∷ High 3 ∷ Word 0 ∷ [])) 1 (Move kind.Wide 1 0) ≡ Some (SetReg 1 (Low 2) ∷ SetReg 2 (High 3) ∷ Jump 1 ∷ [])
-unfolding descriptor_of
-moves_halves = refl
 
 -- longs in registers that overlap
 moved_longs : Outcomes (

@@ -1,6 +1,6 @@
 -- The natives of Object, String, Text and Out through a running main. Four steps come before its first instruction, and a
 -- native is one step.
-use Rattle.std.proofs.Common.{◌≡◌, Some, ℕ, ◌+◌, List, [], ◌∷◌, ◌++◌, refl}
+use Rattle.std.proofs.Common.{Some, ℕ, ◌+◌, List, [], ◌∷◌, ◌++◌, refl}
 use Rattle.std.specs.Prelude.{codes}
 use Rattle.pi_model.specs.declared.numbers.NameNo.{NameNo}
 use Rattle.pi_model.specs.declared.insn.Insn.{Insn}
@@ -11,7 +11,7 @@ use Rattle.pi_model.specs.declared.insn.How.TheVariants.{Virtual, Super, Static}
 use Rattle.pi_model.specs.declared.insn.Kind.TheVariants as kind
 use Rattle.pi_model.specs.Program.{Program}
 use Rattle.pi_machine.specs.Printed.{printed_text}
-use Rattle.pi_machine.proofs.Examples.{outcome, Outcomes, prints_in, throws_in, prints, throws}
+use Rattle.pi_machine.proofs.Examples.{Same, outcome, Outcomes, prints_in, throws_in, prints, throws}
 use Rattle.pi_machine.proofs.Sample.{no, object, string, class_class, text_class, cloneable, int, long, bool, char, ints, longs, chars, own, class, code, method, instance_field, field_ref, method_ref, chain, main_method, print, print_long, print_text}
 
 -- the calls; each leaves its result in register 1 but for those of arrays and longs
@@ -60,30 +60,25 @@ prints_values : Outcomes (
 unfolding outcome
 prints_values = refl
 
--- the ends of each length in bytes
-one_byte : printed_text (0 ∷ 0x7f ∷ []) ≡ 0 ∷ 0x7f ∷ []
-one_byte = refl
-
--- of two bytes
-two_bytes : printed_text (0x80 ∷ 0x7ff ∷ []) ≡ 0xc2 ∷ 0x80 ∷ 0xdf ∷ 0xbf ∷ []
-two_bytes = refl
-
--- of three, on both sides of the surrogates
-three_bytes : printed_text (0x800 ∷ 0xd7ff ∷ 0xe000 ∷ 0xffff ∷ []) ≡ 0xe0 ∷ 0xa0 ∷ 0x80 ∷ 0xed ∷ 0x9f ∷ 0xbf ∷ 0xee ∷ 0x80 ∷ 0x80 ∷ 0xef ∷ 0xbf ∷ 0xbf ∷ []
-three_bytes = refl
-
--- of four
-four_bytes : printed_text (0xd800 ∷ 0xdc00 ∷ 0xdbff ∷ 0xdfff ∷ []) ≡ 0xf0 ∷ 0x90 ∷ 0x80 ∷ 0x80 ∷ 0xf4 ∷ 0x8f ∷ 0xbf ∷ 0xbf ∷ []
-four_bytes = refl
-
--- a high half at the end, two high halves before a low one, and two halves in the wrong order
-halves_alone : printed_text (0xd83d ∷ []) ++ printed_text (0xd83d ∷ 0xd83d ∷ 0xde00 ∷ []) ++ printed_text (0xde00 ∷ 0xd83d ∷ [])
-    ≡ 63 ∷ 63 ∷ 0xf0 ∷ 0x9f ∷ 0x98 ∷ 0x80 ∷ 63 ∷ 63 ∷ []
-halves_alone = refl
-
--- the first and the last half of each sort
-halves_at_ends : printed_text (0xd800 ∷ 65 ∷ 0xdbff ∷ 65 ∷ 0xdc00 ∷ 0xdfff ∷ []) ≡ 63 ∷ 65 ∷ 63 ∷ 65 ∷ 63 ∷ 63 ∷ []
-halves_at_ends = refl
+-- texts as bytes
+printed_texts : Same (
+    -- the ends of each length in bytes
+    (printed_text (0 ∷ 0x7f ∷ []), 0 ∷ 0x7f ∷ [])
+    -- of two bytes
+    ∷ (printed_text (0x80 ∷ 0x7ff ∷ []), 0xc2 ∷ 0x80 ∷ 0xdf ∷ 0xbf ∷ [])
+    -- of three, on both sides of the surrogates
+    ∷ (printed_text (0x800 ∷ 0xd7ff ∷ 0xe000 ∷ 0xffff ∷ []), 0xe0 ∷ 0xa0 ∷ 0x80 ∷ 0xed ∷ 0x9f ∷ 0xbf ∷ 0xee ∷ 0x80 ∷ 0x80 ∷ 0xef ∷ 0xbf ∷ 0xbf ∷ [])
+    -- of four
+    ∷ (printed_text (0xd800 ∷ 0xdc00 ∷ 0xdbff ∷ 0xdfff ∷ []), 0xf0 ∷ 0x90 ∷ 0x80 ∷ 0x80 ∷ 0xf4 ∷ 0x8f ∷ 0xbf ∷ 0xbf ∷ [])
+    -- a high half at the end, two high halves before a low one, and two halves in the wrong order
+    ∷ (
+      printed_text (0xd83d ∷ []) ++ printed_text (0xd83d ∷ 0xd83d ∷ 0xde00 ∷ []) ++ printed_text (0xde00 ∷ 0xd83d ∷ []),
+      63 ∷ 63 ∷ 0xf0 ∷ 0x9f ∷ 0x98 ∷ 0x80 ∷ 63 ∷ 63 ∷ [],
+    )
+    -- the first and the last half of each sort
+    ∷ (printed_text (0xd800 ∷ 65 ∷ 0xdbff ∷ 65 ∷ 0xdc00 ∷ 0xdfff ∷ []), 63 ∷ 65 ∷ 63 ∷ 65 ∷ 63 ∷ 63 ∷ [])
+    ∷ [])
+printed_texts = refl
 
 -- from an address on: 1 is printed where the registers 1 and 2 hold the same reference, else 0
 abbrev same : ℕ → List Insn
