@@ -9,6 +9,7 @@ use Rattle.pi_model.specs.declared.insn.Access.TheVariants.{Plain, Wide, Ref, Bo
 use Rattle.pi_model.specs.Program.{Program}
 use Rattle.pi_machine.proofs.Examples.{Run, outcome, Outcomes, prints_in, throws_in, prints, throws}
 use Rattle.pi_machine.proofs.Sample.{no, object, string, ints, longs, bools, bytes, chars, shorts, objects, strings, int_rows, own, class, chain, main_method, print, print_long, print_text}
+use Rattle.pi_machine.proofs.Layouts.{a, b}
 
 -- lengths, and elements as they begin
 lengths : Outcomes (
@@ -118,12 +119,6 @@ unfolding outcome
 elements_of_none = refl
 
 -- main before LA;, which implements the interface LI;, and LB; below it; the arrays of these
-abbrev a : NameNo
-a = own 1
-
-abbrev b : NameNo
-b = own 2
-
 abbrev arrays_of_a : NameNo
 arrays_of_a = own 4
 

@@ -17,63 +17,34 @@ use Rattle.pi_model.specs.declared.insn.Kind.TheVariants as kind
 use Rattle.pi_model.specs.Program.{Program}
 use Rattle.pi_machine.proofs.Examples.{Run, outcome, Outcomes, prints_in, throws_in}
 use Rattle.pi_machine.proofs.Sample.{no, object, string, class_class, int, long, void, ints, init, own, class, code, handler, method, instance_field, field_ref, method_ref, chain, main_method, print, print_long}
+use Rattle.pi_machine.proofs.Layouts.{a, b, c, i, j, x, y, z, f, a_array}
 
 -- The classes, by the numbers of their names: LB; below LA;, LC; below LB;, LD; and LE; below LA;. LB; implements LI;,
 -- an interface below LJ;. LX; is abstract and implements LI;, and LY; and LW; are below it.
-abbrev a : NameNo
-a = own 1
-
-abbrev b : NameNo
-b = own 2
-
-abbrev c : NameNo
-c = own 3
-
 abbrev d : NameNo
-d = own 4
+d = own 9
 
 abbrev e : NameNo
-e = own 5
-
-abbrev i : NameNo
-i = own 6
-
-abbrev j : NameNo
-j = own 7
-
-abbrev x : NameNo
-x = own 8
-
-abbrev y : NameNo
-y = own 9
+e = own 12
 
 abbrev w : NameNo
-w = own 10
-
-abbrev arrays_of_a : NameNo
-arrays_of_a = own 11
+w = own 13
 
 -- m and q are found by the receiver's type, s and u call m of the superclass
 abbrev m : NameNo
-m = own 12
+m = own 14
 
 abbrev p : NameNo
-p = own 13
+p = own 15
 
 abbrev q : NameNo
-q = own 14
+q = own 16
 
 abbrev s : NameNo
-s = own 15
+s = own 17
 
 abbrev u : NameNo
-u = own 16
-
-abbrev z : NameNo
-z = own 17
-
-abbrev f : NameNo
-f = own 18
+u = own 18
 
 abbrev clone : NameNo
 clone = no 51
@@ -114,8 +85,8 @@ seven_ints = int ∷ int ∷ int ∷ int ∷ int ∷ int ∷ int ∷ []
 
 abbrev catching : List Insn → List Catch → Program
 catching insns tries = chain (
-    codes "LT;" ∷ codes "LA;" ∷ codes "LB;" ∷ codes "LC;" ∷ codes "LD;" ∷ codes "LE;" ∷ codes "LI;" ∷ codes "LJ;" ∷ codes "LX;" ∷ codes "LY;" ∷ codes "LW;" ∷ codes "[LA;"
-    ∷ codes "m" ∷ codes "p" ∷ codes "q" ∷ codes "s" ∷ codes "u" ∷ codes "z" ∷ codes "f" ∷ []) (
+    codes "LT;" ∷ codes "LA;" ∷ codes "LB;" ∷ codes "LC;" ∷ codes "LI;" ∷ codes "LJ;" ∷ codes "LX;" ∷ codes "LY;" ∷ codes "f" ∷ codes "LD;" ∷ codes "z" ∷ codes "[LA;"
+    ∷ codes "LE;" ∷ codes "LW;" ∷ codes "m" ∷ codes "p" ∷ codes "q" ∷ codes "s" ∷ codes "u" ∷ []) (
     class 1 (own 0) 1 (Some object) [] [] (main_method insns tries
     ∷ method f (int ∷ int ∷ []) void 9 pair ∷ method f (int ∷ long ∷ int ∷ []) void 9 with_long ∷ method f seven_ints void 9 seven ∷ method f (int ∷ []) int 9 factorial ∷ [])
     ∷ class 1 a 1 (Some object) [] (instance_field f int ∷ [])
@@ -192,7 +163,7 @@ interface_calls : Outcomes (
     -- a receiver without the interface throws IncompatibleClassChangeError, though it has such a method
     ∷ throws_in (world (NewInstance 0 a ∷ calls Interface i m)) 22 10
     -- so do an array, a text and a class object
-    ∷ throws_in (world (Const 0 1 ∷ NewArray 0 0 arrays_of_a ∷ calls Interface i m)) 22 8
+    ∷ throws_in (world (Const 0 1 ∷ NewArray 0 0 a_array ∷ calls Interface i m)) 22 8
     -- a text
     ∷ throws_in (world (ConstString 0 string ∷ calls Interface j q)) 22 7
     -- a class object, also one of a class with the interface
@@ -233,7 +204,7 @@ methods_of_object : Outcomes (
     -- methods of array types are those of Object
     ∷ shows (Const 0 3 ∷ NewArray 1 0 ints ∷ Invoke Virtual (method_ref ints clone [] object) (1 ∷ []) ∷ MoveResult kind.Ref 2 ∷ ArrayLength 3 2 ∷ print 3 ∷ ReturnVoid ∷ []) (codes "3\n") 11
     -- the class of an array is its type
-    ∷ shows (Const 0 3 ∷ NewArray 0 0 arrays_of_a ∷ class_is Virtual arrays_of_a arrays_of_a 2 ++ ReturnVoid ∷ []) (codes "1\n") 13
+    ∷ shows (Const 0 3 ∷ NewArray 0 0 a_array ∷ class_is Virtual a_array a_array 2 ++ ReturnVoid ∷ []) (codes "1\n") 13
     ∷ [])
 unfolding outcome
 methods_of_object = refl

@@ -16,29 +16,15 @@ use Rattle.pi_model.specs.Program.{Program}
 use Rattle.pi_machine.specs.Ends.{Uncaught}
 use Rattle.pi_machine.proofs.Examples.{Run, outcome, Outcomes, ends_with, prints_in, throws_in, prints, throws}
 use Rattle.pi_machine.proofs.Sample.{no, object, string, class_class, throwable, exception, runtime_exception, arithmetic, null_pointer, int, long, bool, byte, char, short, void, message, own, class, code, handler, method, static_field, instance_field, field_ref, method_ref, chain, main_method, main_program, wide, finish, print, print_long, print_text}
+use Rattle.pi_machine.proofs.Layouts.{a, b, c, x, y}
 
 -- LA; with a static field s and an instance field x of each type, LB; below it with a field y, and LC; below that with
 -- an x of its own
-abbrev a : NameNo
-a = own 1
-
-abbrev b : NameNo
-b = own 2
-
-abbrev c : NameNo
-c = own 3
-
-abbrev x : NameNo
-x = own 4
-
 abbrev s : NameNo
-s = own 5
-
-abbrev y : NameNo
-y = own 6
+s = own 4
 
 abbrev m : NameNo
-m = own 7
+m = own 5
 
 abbrev types : List NameNo
 types = int ∷ long ∷ bool ∷ byte ∷ char ∷ short ∷ string ∷ []
@@ -56,7 +42,7 @@ class_c = class 1 c 1 (Some b) [] (instance_field x int ∷ []) []
 
 -- main of these instructions in LT;, which has a static method m of each result behind main
 abbrev world : List Insn → List Catch → Program
-world insns tries = chain (codes "LT;" ∷ codes "LA;" ∷ codes "LB;" ∷ codes "LC;" ∷ codes "x" ∷ codes "s" ∷ codes "y" ∷ codes "m" ∷ []) (
+world insns tries = chain (codes "LT;" ∷ codes "LA;" ∷ codes "LB;" ∷ codes "LC;" ∷ codes "s" ∷ codes "m" ∷ codes "x" ∷ codes "y" ∷ []) (
     class 1 (own 0) 1 (Some object) [] [] (
     main_method insns tries
     ∷ method m [] int 9 (code 1 0 (Const 0 7 ∷ Return kind.Word 0 ∷ []) [])

@@ -7,23 +7,9 @@ use Rattle.pi_model.specs.declared.insn.Insn.TheVariants.{Const, ConstString, Co
 use Rattle.pi_model.specs.Program.{Program}
 use Rattle.pi_machine.proofs.Examples.{Run, outcome, Outcomes, prints_in, throws_in}
 use Rattle.pi_machine.proofs.Sample.{no, object, string, class_class, exception, error_class, null_pointer, cloneable, ints, longs, bytes, objects, strings, int_rows, own, class, chain, main_method, print}
+use Rattle.pi_machine.proofs.Layouts.{a, b, c, i, j}
 
 -- LB; is below LA; and implements LI;, an interface below LJ;; LC; is below LB;; LK; is another interface
-abbrev a : NameNo
-a = own 1
-
-abbrev b : NameNo
-b = own 2
-
-abbrev c : NameNo
-c = own 3
-
-abbrev i : NameNo
-i = own 4
-
-abbrev j : NameNo
-j = own 5
-
 abbrev k : NameNo
 k = own 6
 

@@ -13,6 +13,7 @@ use Rattle.pi_model.specs.Program.{Program}
 use Rattle.pi_machine.specs.Printed.{printed_text}
 use Rattle.pi_machine.proofs.Examples.{Same, outcome, Outcomes, prints_in, throws_in, prints, throws}
 use Rattle.pi_machine.proofs.Sample.{no, object, string, class_class, text_class, cloneable, int, long, bool, char, ints, longs, chars, own, class, code, method, instance_field, field_ref, method_ref, chain, main_method, print, print_long, print_text}
+use Rattle.pi_machine.proofs.Layouts.{a, b, x}
 
 -- the calls; each leaves its result in register 1 but for those of arrays and longs
 abbrev clone : ℕ → ℕ → List Insn
@@ -148,12 +149,6 @@ new_texts = refl
 
 -- LA; has fields and is a Cloneable, LB; and LC; are below it, and LC; has a clone that calls the one above; LN; is none;
 -- LM; implements LK;, an interface below Cloneable
-abbrev a : NameNo
-a = own 1
-
-abbrev b : NameNo
-b = own 2
-
 abbrev n : NameNo
 n = own 3
 
@@ -161,13 +156,10 @@ abbrev m : NameNo
 m = own 4
 
 abbrev arrays_of_n : NameNo
-arrays_of_n = own 6
-
-abbrev x : NameNo
-x = own 7
+arrays_of_n = own 7
 
 abbrev world : List Insn → Program
-world insns = chain (codes "LT;" ∷ codes "LA;" ∷ codes "LB;" ∷ codes "LN;" ∷ codes "LM;" ∷ codes "LK;" ∷ codes "[LN;" ∷ codes "x" ∷ codes "LC;" ∷ []) (
+world insns = chain (codes "LT;" ∷ codes "LA;" ∷ codes "LB;" ∷ codes "LN;" ∷ codes "LM;" ∷ codes "LK;" ∷ codes "x" ∷ codes "[LN;" ∷ codes "LC;" ∷ []) (
     class 1 (own 0) 1 (Some object) [] [] (main_method insns [] ∷ [])
     ∷ class 1 a 1 (Some object) (cloneable ∷ []) (instance_field x int ∷ instance_field x long ∷ instance_field x string ∷ []) []
     ∷ class 1 b 1 (Some a) [] [] []
