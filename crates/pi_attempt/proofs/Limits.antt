@@ -17,7 +17,7 @@ use Rattle.pi_machine.specs.Natives.{native_table}
 use Rattle.pi_machine.specs.Initialisation.{is_clinit}
 use Rattle.pi_machine.specs.Start.{first_state}
 use Rattle.pi_machine.proofs.Sample.{chain, class, object, own, void, method, clinit_method, code, method_ref}
-use Rattle.pi_attempt.specs.Watch.{Why, Heap, Frames, reason, when, image_limit, entered}
+use Rattle.pi_attempt.specs.Watch.{Why, Heap, Frames, reason, reason_if, image_limit, entry_state}
 use Rattle.pi_attempt.specs.Fold.{Held, Lazy}
 use Rattle.pi_attempt.proofs.Helpers.{Reports, second, names, one}
 
@@ -30,7 +30,7 @@ abbrev chain_of_c : Program
 chain_of_c = one (ReturnVoid ∷ [])
 
 abbrev in_c : State
-in_c = entered 29 1 (first_state chain_of_c)
+in_c = entry_state 29 1 (first_state chain_of_c)
 
 or_none : (o : Option Why) → or_else o None ≡ o
 or_none None = refl
@@ -40,9 +40,9 @@ alone : (n : ℕ) → 0 + (n + 0) ≡ n
 alone n = omega arith
 
 -- the object bytes are those of the one array
-made_bytes : (n : ℕ) → reason chain_of_c 29 1 false in_c (makes n) ≡ when (nat_lt image_limit (sized 4 n)) Heap
+made_bytes : (n : ℕ) → reason chain_of_c 29 1 false in_c (makes n) ≡ reason_if (nat_lt image_limit (sized 4 n)) Heap
 unfolding descriptor_of native_table is_virtual is_clinit
-made_bytes n = rw (length-replicate n (Word 0), alone (sized 4 n)) (or_none (when (nat_lt image_limit (sized 4 n)) Heap))
+made_bytes n = rw (length-replicate n (Word 0), alone (sized 4 n)) (or_none (reason_if (nat_lt image_limit (sized 4 n)) Heap))
 
 -- 8,388,604 ints with the header of sixteen bytes are all that an image may have
 fits_exactly : reason chain_of_c 29 1 false in_c (makes 8388604) ≡ None

@@ -20,9 +20,9 @@ use Rattle.pi_model.specs.Search.{Member, class_at, method_at, method_of}
 use Rattle.pi_model.specs.Sizes.{width_of}
 use Rattle.pi_model.specs.Values.{Ref, Num, Lit, Cls, Value, Word, Low, High, Long, At, Object, Instance, Array, Text}
 use Rattle.pi_machine.specs.State.{State, Frame, Thing, Made, Touched, Entry, Call, Record, Phase, Held, Nothing, Result, Thrown}
-use Rattle.pi_machine.specs.Deeds.{Deed, Make, Touch, SetStatic, SetStatus, SetField, SetItem, Print, Start, Push, Pop, SetReg, Jump, GoOn, SetPhase, Pend, Unpend, Hold, is_touched, with_touched, with_field, with_item, in_thing, put_changed, changed_at, popped, on_frame, on_record, with_register, do_deed, do_all}
+use Rattle.pi_machine.specs.Deeds.{Deed, Make, Touch, SetStatic, SetStatus, SetField, SetItem, Print, Start, Push, Pop, SetReg, Jump, GoOn, SetPhase, Pend, Unpend, Hold, is_touched, with_touched, with_field, with_item, in_thing, put_changed, changed_at, stack_below, on_frame, on_record, with_register, do_deed, do_all}
 use Rattle.pi_machine.specs.Objects.{made_of}
-use Rattle.pi_machine.specs.Operands.{narrowed}
+use Rattle.pi_machine.specs.Operands.{narrow_word}
 use Rattle.pi_machine.specs.Codes.{code_in, code_of, line_at, line_of}
 use Rattle.pi_machine.specs.Initialisation.{argument_list}
 use Rattle.pi_machine.specs.Rows.Arrays.{item_value}
@@ -213,7 +213,7 @@ change_sound p s change i h k =
     (changed_sound change (IsSoundThing p s.things) (in_thing_sound p s.things change k) s.things i (slice_get s.things i) refl h.things))
 
 -- the stack
-popped_sound : (P : Entry → Type 0) (stack : List Entry) → EachOf P stack → EachOf P (popped stack)
+popped_sound : (P : Entry → Type 0) (stack : List Entry) → EachOf P stack → EachOf P (stack_below stack)
 popped_sound P [] h = h
 popped_sound P (e ∷ below) h = h.1
 
@@ -398,7 +398,7 @@ module _ (p : Program) (s : State) where
   sound_rows f = record {
     none = λ new now h g n. h;
     push_call = λ new c ds x k now h g n. k (do_deed (Push (Call c)) now) (stack_sound now (Call c ∷ now.stack) h (values_grow g c.registers x, h.stack)) g n;
-    pop = λ new ds k now h g n. k (do_deed Pop now) (stack_sound now (popped now.stack) h (popped_sound (IsSoundEntry now.things) now.stack h.stack)) g n;
+    pop = λ new ds k now h g n. k (do_deed Pop now) (stack_sound now (stack_below now.stack) h (popped_sound (IsSoundEntry now.things) now.stack h.stack)) g n;
     set_reg = λ new a v ds below x k now h g n. k (do_deed (SetReg a v) now) (stack_sound now (on_frame (with_register a v) now.stack) h
         (on_frame_sound now.things (with_register a v) now.stack
         (λ c y. each_set (IsSoundValue now.things) c.registers a v y (now_sound new v now x g n)) h.stack)) g n;
@@ -438,7 +438,7 @@ module _ (p : Program) (s : State) where
     set_phase = λ phase ds k now h g n. k (do_deed (SetPhase phase) now) (stack_sound now (on_record phase now.stack) h (on_record_sound now.things phase now.stack h.stack)) g n;
     unpend = λ ds k now h g n. k (do_deed Unpend now) (pending_is None now h tt) g n;
     fails = λ c ds k now h g same short. k (do_all (SetStatus c Erroneous ∷ Pop ∷ []) now)
-        (stack_sound (do_deed (SetStatus c Erroneous) now) (popped now.stack) (status_sound c Erroneous now h) (popped_sound (IsSoundEntry now.things) now.stack h.stack))
+        (stack_sound (do_deed (SetStatus c Erroneous) now) (stack_below now.stack) (status_sound c Erroneous now h) (popped_sound (IsSoundEntry now.things) now.stack h.stack))
         g same short.1.1;
     first_static = λ c field v ds is x k now h g. k (do_deed (SetStatic field v) now) (static_sound field v now h (value_grows g v x)) g;
     first_text = λ c field n ds is k now h g. touches n (SetStatic field (At (Lit n)) ∷ ds)
@@ -480,8 +480,8 @@ module _ (p : Program) (w : HasWordConstants p) (things : List Thing) where
       by_letter (letter == 74) (letter == 90) (letter == 66) (letter == 67) (letter == 83) fits
     where
       by_letter : (j z b c s : Bool) → n < 2 ^ (8 * (if z || b then 1 else if c || s then 2 else if j then 8 else 4))
-          → Sound (if j then Long n else if z then Word (narrowed access.Bool n) else if b then Word (narrowed access.Byte n) else
-          if c then Word (narrowed access.Char n) else if s then Word (narrowed access.Short n) else Word n)
+          → Sound (if j then Long n else if z then Word (narrow_word access.Bool n) else if b then Word (narrow_word access.Byte n) else
+          if c then Word (narrow_word access.Char n) else if s then Word (narrow_word access.Short n) else Word n)
       by_letter true true b c s h = omega (arith, h)
       by_letter true false true c s h = omega (arith, h)
       by_letter true false false true s h = omega (arith, h)

@@ -15,7 +15,7 @@ use Rattle.pi_model.specs.Known.{Known, Error, ExceptionInInitializer, NoClassDe
 use Rattle.pi_model.specs.Search.{class_at}
 use Rattle.pi_model.specs.Values.{Ref}
 use Rattle.pi_machine.specs.State.{State, Frame, Phase, Entered, ValuesSet, Running, Entry, Call, Record}
-use Rattle.pi_machine.specs.Deeds.{Look, Deed, Saw, OfStatus, SetStatus, Push, Pop, SetReg, Jump, GoOn, SetPhase, do_deed, do_all, popped, on_frame, on_record, with_register, jumped, past_call}
+use Rattle.pi_machine.specs.Deeds.{Look, Deed, Saw, OfStatus, SetStatus, Push, Pop, SetReg, Jump, GoOn, SetPhase, do_deed, do_all, stack_below, on_frame, on_record, with_register, frame_at, past_call}
 use Rattle.pi_machine.specs.Operands.{Deeds, first_do}
 use Rattle.pi_machine.specs.Codes.{code_of, line_of}
 use Rattle.pi_machine.specs.Throwing.{throws, is_of_type, handler_for, to_handler, fails, throwable_move}
@@ -69,7 +69,7 @@ unfolding is_calm Calm
 calm_throw p s class = throwing (λ o r. (refl, (refl, tt))) p s class
 
 -- the stack's own moves keep that the records run
-popped_run : (statuses : List ClassState) (stack : List Entry) → RecordsRunOn statuses stack → RecordsRunOn statuses (popped stack)
+popped_run : (statuses : List ClassState) (stack : List Entry) → RecordsRunOn statuses stack → RecordsRunOn statuses (stack_below stack)
 popped_run statuses [] r = r
 popped_run statuses (Call f ∷ below) r = r
 popped_run statuses (Record c phase ∷ below) r = r.2
@@ -93,7 +93,7 @@ calm_run (Push (Record c phase)) s e r = cc
 calm_run (Push (Call f)) s e r = r
 calm_run Pop s e r = popped_run s.statuses s.stack r
 calm_run (SetReg a v) s e r = frame_run (with_register a v) s.statuses s.stack r
-calm_run (Jump to) s e r = frame_run (jumped to) s.statuses s.stack r
+calm_run (Jump to) s e r = frame_run (frame_at to) s.statuses s.stack r
 calm_run GoOn s e r = frame_run past_call s.statuses s.stack r
 calm_run (SetPhase phase) s e r = phase_run phase s.statuses s.stack r
 calm_run _ s e r = r
@@ -187,10 +187,10 @@ fine_enters s c r e = fine_list s (enters c) (
 
 -- the record on top ends: its class gets its last status, the record goes, and calm deeds follow
 closed : (statuses : List ClassState) (c : ℕ) (status : ClassState) (phase : Phase) (below stack : List Entry) → stack ≡ Record c phase ∷ below
-    → RecordsRunOn statuses stack → RecordsRunOn (slice_set statuses c status) (popped stack)
+    → RecordsRunOn statuses stack → RecordsRunOn (slice_set statuses c status) (stack_below stack)
 closed statuses c status phase below stack e r =
     let t = subst (RecordsRunOn statuses) e r in
-    subst (λ (x : List Entry). RecordsRunOn (slice_set statuses c status) (popped x)) (sym e) (apart_run statuses c status below t.2 t.1)
+    subst (λ (x : List Entry). RecordsRunOn (slice_set statuses c status) (stack_below x)) (sym e) (apart_run statuses c status below t.2 t.1)
 
 fine_closes : (s : State) (c : ℕ) (status : ClassState) (phase : Phase) (below : List Entry) (ds : List Deed) → s.stack ≡ Record c phase ∷ below
     → RecordsRun s → StatusMoves (Some InProgress) (Some status) → EachDeed Calm ds → AllFine s (Some (SetStatus c status ∷ Pop ∷ ds))

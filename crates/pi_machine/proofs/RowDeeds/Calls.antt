@@ -21,7 +21,7 @@ use Rattle.pi_machine.specs.Operands.{Deeds, registers_of}
 use Rattle.pi_machine.specs.Throwing.{throws, next_made, is_of_type}
 use Rattle.pi_machine.specs.Codes.{code_of}
 use Rattle.pi_machine.specs.Natives.{Native, Outcome, Gives, Fails, native_does}
-use Rattle.pi_machine.specs.Rows.Calls.{argument_kinds, arguments_fit, entry_frame, calls_frame, native_ends, native_at, is_abstract, enters_method, call_row, dispatch_from, receiver_class, virtual_row, code_class, interface_row, with_receiver, invoked, with_arguments, invoke_row}
+use Rattle.pi_machine.specs.Rows.Calls.{argument_kinds, arguments_fit, entry_frame, calls_frame, native_ends, native_at, is_abstract, enters_method, call_row, dispatch_from, receiver_class, virtual_row, code_class, interface_row, with_receiver, invocation, with_arguments, invoke_row}
 use Rattle.pi_machine.proofs.RowDeeds.Words.{Does, RowFacts, ValuedLists, ValuedCalls, stuck, these, either, if_found, by_ref, registers_values, thrown}
 use Rattle.pi_machine.proofs.RowDeeds.Natives.{AllBefore, native_deeds}
 
@@ -87,7 +87,7 @@ module _ {p : Program} {s : State} {f : Frame} {V : Option Ref → Value → Typ
   by_receiver (v ∷ vs) h = by_ref s (Some v) (thrown g k NullPointer) (λ r e. h r)
 
   invoked_deeds : (units : ℕ) (how : How) (m : MethodRef) (args : List Value) (i : Member) → EachOf (V None) args
-      → Does All (invoked p s f units how m args i)
+      → Does All (invocation p s f units how m args i)
   invoked_deeds units Static m args i x = call_deeds units args (Some i) x
   invoked_deeds units Direct m args i x = by_receiver args (λ r. call_deeds units args (Some i) x)
   invoked_deeds units Super m args i x =

@@ -17,7 +17,7 @@ use Rattle.pi_model.specs.Arithmetic.{int_result, long_result}
 use Rattle.pi_machine.specs.State.{State, Frame, Call, Held, Nothing, Result, Thrown}
 use Rattle.pi_machine.specs.Deeds.{Look, OfStatic, Deed, Make, Touch, Saw, Reads, Writes, SetStatic, SetField, SetItem, CallNative, Print, Push, Pop, SetReg, Jump, GoOn, Pend, Hold}
 use Rattle.pi_machine.specs.Objects.{OfArray, shape_at, object_at, field_in, item_in, names_thing}
-use Rattle.pi_machine.specs.Operands.{Deeds, first_do, with_word, with_long, with_ref, with_operand, of_kind, register_of, registers_of, joined, kept, set_word, set_long, set_value, set_and_go, go_on}
+use Rattle.pi_machine.specs.Operands.{Deeds, first_do, with_word, with_long, with_ref, with_operand, of_kind, register_of, registers_of, value_list, stored_value, set_word, set_long, set_value, set_and_go, go_on}
 use Rattle.pi_machine.specs.Printed.{long_text}
 use Rattle.pi_machine.specs.Natives.{units_in, words_in}
 use Rattle.pi_machine.specs.Rows.Numbers.{takes_long, unary_value}
@@ -91,7 +91,7 @@ pub record RowFacts (p : Program) (s : State) (f : Frame) (V : Option Ref → Va
   pub wide : (m n : ℕ) → V None (Low m) → V None (High n) → V None (Long (m + 2 ^ 32 * n))
   pub low : (new : Option Ref) (n : ℕ) → V new (Long n) → V new (Low (n % 2 ^ 32))
   pub high : (new : Option Ref) (n : ℕ) → V new (Long n) → V new (High (n / 2 ^ 32))
-  pub kept : (k : Access) (v : Value) → V None v → V None (kept k v)
+  pub stored_value : (k : Access) (v : Value) → V None v → V None (stored_value k v)
   pub int : (op : BinOp) (m n r : ℕ) → V None (Word m) → V None (Word n) → int_result op m n ≡ Some r → V None (Word r)
   pub long : (op : BinOp) (of_long : Bool) (m n r : ℕ) → V None (Long m) → V None (number of_long n) → long_result op m n ≡ Some r → V None (Long r)
   pub unary : (op : UnOp) (n : ℕ) → V None (number (takes_long op) n) → V None (unary_value op n)
@@ -162,7 +162,7 @@ any_facts p s f = record {
   wide = λ m n x y. tt;
   low = λ new n x. tt;
   high = λ new n x. tt;
-  kept = λ k v x. tt;
+  stored_value = λ k v x. tt;
   int = λ op m n r x y e. tt;
   long = λ op b m n r x y e. tt;
   unary = λ op n x. tt;
@@ -355,7 +355,7 @@ module _ {p : Program} {s : State} {f : Frame} {V : Option Ref → Value → Typ
   registers_values (a ∷ regs) vs e = by_joined (register_of f a) (registers_of f regs) refl (registers_values regs) e
     where
       by_joined : (o : Option Value) (rest : Option (List Value)) → register_of f a ≡ o → ((xs : List Value) → rest ≡ Some xs → EachOf (V None) xs)
-          → joined o rest ≡ Some vs → EachOf (V None) vs
+          → value_list o rest ≡ Some vs → EachOf (V None) vs
       by_joined None rest is h j = cc
       by_joined (Some v) None is h j = cc
       by_joined (Some v) (Some xs) is h j = subst (EachOf (V None)) (some_same (v ∷ xs) vs j) (g.register a v is, h xs refl)
@@ -366,7 +366,7 @@ registers_count f [] vs e = sym (ap (λ xs. length xs) (some_same [] vs e))
 registers_count f (a ∷ regs) vs e = by_joined (register_of f a) (registers_of f regs) (registers_count f regs) e
   where
     by_joined : (o : Option Value) (rest : Option (List Value)) → ((xs : List Value) → rest ≡ Some xs → length xs ≡ length regs)
-        → joined o rest ≡ Some vs → length vs ≡ length (a ∷ regs)
+        → value_list o rest ≡ Some vs → length vs ≡ length (a ∷ regs)
     by_joined None rest h j = cc
     by_joined (Some v) None h j = cc
     by_joined (Some v) (Some xs) h j = sym (ap (λ ys. length ys) (some_same (v ∷ xs) vs j)) ∙ ap (λ n. suc n) (h xs refl)
