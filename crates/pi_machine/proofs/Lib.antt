@@ -32,7 +32,7 @@ mod RunEnds
 pub mod RunLaws
 pub mod Sample
 pub mod Statuses
-pub mod StepDeeds
+pub mod Moves
 pub mod StepForms
 mod SoundExamples
 pub mod SoundStarts

@@ -8,11 +8,11 @@ use Rattle.pi_model.specs.Values.{Ref, Value, Word, Long, Object, Array}
 use Rattle.pi_model.specs.Sizes.{width_of}
 use Rattle.pi_machine.specs.Rows.Arrays.{item_value}
 use Rattle.pi_machine.specs.Sound.{EachOf}
-use Rattle.pi_machine.specs.State.{State, Frame, Nothing}
-use Rattle.pi_machine.specs.Deeds.{Deed, Jump}
+use Rattle.pi_machine.specs.State.{State, Frame, Record, Nothing}
+use Rattle.pi_machine.specs.Deeds.{Deed, SetStatic, SetStatus, SetField, SetItem, CallNative, Start, Push, SetReg, Jump, SetPhase, Unpend}
 use Rattle.pi_machine.specs.Rows.{row}
 use Rattle.pi_machine.proofs.Each.{each_any}
-use Rattle.pi_machine.proofs.RowDeeds.Words.{Does, RowFacts, ValuedLists, ValuedCalls, RowLists, RowKinds, AnyValue, AnyObject, any_facts, valued, valued_calls, of_each, on_some, each_fails, these, goes, sets}
+use Rattle.pi_machine.proofs.RowDeeds.Words.{Does, RowFacts, ValuedLists, ValuedCalls, RowLists, AnyValue, AnyObject, any_facts, valued, valued_calls, RowFact, of_each, on_some, each_fails, these, goes, sets}
 use Rattle.pi_machine.proofs.RowDeeds.Numbers.{move_deeds, move_result_deeds, move_exception_deeds, returning, return_deeds, const_string_deeds, const_class_deeds, unary_deeds, binary_deeds, binary_literal_deeds, compare_long_deeds, if_deeds, if_zero_deeds, switch_deeds}
 use Rattle.pi_machine.proofs.RowDeeds.Objects.{new_instance_deeds, monitor_deeds, check_cast_deeds, instance_of_deeds, throw_deeds, iget_deeds, iput_deeds, sget_deeds, sput_deeds, array_length_deeds, new_array_deeds, filled_row_deeds, fill_array_deeds, aget_deeds, aput_deeds}
 use Rattle.pi_machine.proofs.RowDeeds.Calls.{invoke_deeds}
@@ -88,57 +88,33 @@ pub row_lists : {p : Program} {s : State} {f : Frame} {Ends : List Deed → Type
 row_lists {p} {s} {f} k units i = valued_rows (any_facts p s f) (valued k) (valued_calls k) units i (any_constants i)
 
 -- a property of each deed of a row
-pub row_deeds : {p : Program} {s : State} {f : Frame} {P : Deed → Type 0} (k : RowKinds p s f P) (units : ℕ) (i : Insn) → Does (EachDeed P) (row p s f units i)
-row_deeds k units i = row_lists (of_each k) units i
+pub row_deeds : (p : Program) (s : State) (f : Frame) {P : Deed → Type 0} → ((d : Deed) → RowFact p s f d → P d) → ((m : ℕ) → P (CallNative m))
+    → (units : ℕ) (i : Insn) → Does (EachDeed P) (row p s f units i)
+row_deeds p s f {P} one native units i =
+    let calls : ValuedCalls p s f AnyValue AnyObject (λ new. EachDeed P) (λ n. EachDeed P) (EachDeed P) (EachDeed P) =
+    record { inner = of_each one; call_native = λ m ds h. (native m, h) } in
+    valued_rows (any_facts p s f) (of_each one) calls units i (any_constants i)
 
 -- no row does what is left to initialisation, to the start and to the way of a throwable
-within_rows : (p : Program) (s : State) (f : Frame) → RowKinds p s f (λ d. is_beyond_rows d ≡ false)
-within_rows p s f = record {
-  make = λ o. refl;
-  touch = λ n. refl;
-  saw = λ look e. refl;
-  reads = λ n. refl;
-  writes = λ n. refl;
-  set_static = λ field v e. refl;
-  set_field = λ n i v e. refl;
-  set_item = λ n i v e. refl;
-  call_native = λ m. refl;
-  print = λ bytes. refl;
-  push_call = λ g. refl;
-  pop = refl;
-  set_reg = λ a v e. refl;
-  jump = λ to. refl;
-  past_call = refl;
-  pend = λ r. refl;
-  hold = λ h. refl;
-}
+within_rows : (p : Program) (s : State) (f : Frame) (d : Deed) → RowFact p s f d → is_beyond_rows d ≡ false
+within_rows p s f (SetStatus c status) e = absurd e
+within_rows p s f (Push (Record c phase)) e = absurd e
+within_rows p s f (SetPhase phase) e = absurd e
+within_rows p s f Start e = absurd e
+within_rows p s f Unpend e = absurd e
+within_rows p s f _ e = refl
 
 pub rows_keep_within : RowsKeepWithin
 rows_keep_within = λ p s f units i deeds e.
-    each_fails is_beyond_rows deeds (on_some deeds e (row_deeds (within_rows p s f) units i))
+    each_fails is_beyond_rows deeds (on_some deeds e (row_deeds p s f (within_rows p s f) (λ m. refl) units i))
 
 -- no write of a row is lost
-writes_there : (p : Program) (s : State) (f : Frame) → RowKinds p s f (IsWriteInside s f)
-writes_there p s f = record {
-  make = λ o. tt;
-  touch = λ n. tt;
-  saw = λ look e. tt;
-  reads = λ n. tt;
-  writes = λ n. tt;
-  set_static = λ field v e. e;
-  set_field = λ n i v e. e;
-  set_item = λ n i v e. e;
-  call_native = λ m. tt;
-  print = λ bytes. tt;
-  push_call = λ g. tt;
-  pop = tt;
-  set_reg = λ a v e. e;
-  jump = λ to. tt;
-  past_call = tt;
-  pend = λ r. tt;
-  hold = λ h. tt;
-}
+writes_there : (p : Program) (s : State) (f : Frame) (d : Deed) → RowFact p s f d → IsWriteInside s f d
+writes_there p s f (SetStatic field v) e = e
+writes_there p s f (SetField n i v) e = e
+writes_there p s f (SetItem n i v) e = e
+writes_there p s f (SetReg a v) e = e
+writes_there p s f _ e = tt
 
 pub row_writes_are_inside : RowWritesAreInside
-row_writes_are_inside = λ p s f units i deeds e.
-    on_some deeds e (row_deeds (writes_there p s f) units i)
+row_writes_are_inside = λ p s f units i deeds e. on_some deeds e (row_deeds p s f (writes_there p s f) (λ m. tt) units i)

@@ -4,7 +4,7 @@ use Rattle.std.specs.Prelude.{option_and_then}
 use Rattle.std.specs.List.{list_any}
 use Rattle.std.proofs.lemmas.Bool.{eqb-true}
 use Rattle.pi_model.specs.declared.reason.ClassState.{ClassState}
-use Rattle.pi_model.specs.declared.reason.ClassState.TheVariants.{InProgress, Erroneous}
+use Rattle.pi_model.specs.declared.reason.ClassState.TheVariants.{InProgress, Done, Erroneous}
 use Rattle.pi_model.specs.declared.describe.ClassDesc.{ClassDesc}
 use Rattle.pi_model.specs.declared.describe.FieldDesc.{FieldDesc}
 use Rattle.pi_model.specs.declared.describe.MethodDesc.{MethodDesc}
@@ -15,11 +15,11 @@ use Rattle.pi_model.specs.declared.describe.Init.TheVariants as init
 use Rattle.pi_model.specs.declared.insn.Insn.{Insn}
 use Rattle.pi_model.specs.declared.insn.Insn.TheVariants.{Const, ConstWide, Filled, FillArray, BinaryLit}
 use Rattle.pi_model.specs.declared.insn.Access.TheVariants as access
-use Rattle.pi_model.specs.Program.{Program}
+use Rattle.pi_model.specs.Program.{Program, all_fields}
 use Rattle.pi_model.specs.Search.{Member, class_at, method_at, method_of}
 use Rattle.pi_model.specs.Sizes.{width_of}
 use Rattle.pi_model.specs.Values.{Ref, Num, Lit, Cls, Value, Word, Low, High, Long, At, Object, Instance, Array, Text}
-use Rattle.pi_machine.specs.State.{State, Frame, Thing, Made, Touched, Entry, Call, Record, Phase, Held, Nothing, Result, Thrown}
+use Rattle.pi_machine.specs.State.{State, Frame, Thing, Made, Touched, Entry, Call, Record, Phase, Entered, ValuesSet, Running, Held, Nothing, Result, Thrown}
 use Rattle.pi_machine.specs.Deeds.{Deed, Make, Touch, SetStatic, SetStatus, SetField, SetItem, Print, Start, Push, Pop, SetReg, Jump, GoOn, SetPhase, Pend, Unpend, Hold, is_touched, with_touched, with_field, with_item, in_thing, put_changed, changed_at, stack_below, on_frame, on_record, with_register, do_deed, do_all}
 use Rattle.pi_machine.specs.Objects.{made_of}
 use Rattle.pi_machine.specs.Operands.{narrow_word}
@@ -34,9 +34,12 @@ use Rattle.pi_machine.proofs.Truths.{same_self, some_same}
 use Rattle.pi_machine.proofs.WordResults.{narrowed_small}
 use Rattle.pi_machine.proofs.SoundValues.{OrNew, IsSoundIfShort, facts}
 use Rattle.pi_machine.proofs.Each.{each_get, each_found, each_mono, each_joined, each_set}
-use Rattle.pi_machine.proofs.RowDeeds.{OnConstants}
-use Rattle.pi_machine.proofs.RowDeeds.Words.{ValuedLists, OnHeld, on_some}
-use Rattle.pi_machine.proofs.StepDeeds.{ValuedSteps, StepFacts, OnEntry, OnInit, valued_steps, no_frame}
+use Rattle.pi_machine.proofs.RowDeeds.{OnConstants, valued_rows}
+use Rattle.pi_machine.proofs.RowDeeds.Words.{RowFacts, ValuedLists, ValuedCalls, OnHeld, on_some, pends_new}
+use Rattle.pi_machine.proofs.Moves.{Move, OfRow, LeavesFrame, Handles, CallsMain, SetsValues, Initialises, Completes, Fails, Replaces, Throws, EntersClass, Sees, deeds_in, by_move, OnInit, ValueLists, class_values}
+use Rattle.pi_machine.proofs.RowDeeds.Calls.{entry_values}
+use Rattle.pi_machine.specs.Rows.Calls.{entry_frame}
+use Rattle.pi_model.specs.Fields.{new_instance}
 
 -- what is named stays named
 pub record Grows (old new : List Thing) : Type 0 where
@@ -75,19 +78,27 @@ module _ {old new : List Thing} (g : Grows old new) where
   any_grows None x = x
   any_grows (Some r) x = g.there r x
 
+-- a state of sound parts
+sound_of : (p : Program) (s : State) → EachOf (IsSoundThing p s.things) s.things → EachOf (IsSoundValue s.things) s.statics
+    → EachOf (IsSoundEntry s.things) s.stack → IsSoundHeld s.things s.held → IsThereIfAny s.things s.pending → IsThereIfAny s.things s.args
+    → length s.statics ≡ all_fields p → length s.statuses ≡ length p.classes → IsSound p s
+sound_of p s things statics stack held pending args all_statics all_statuses = record {
+  things = things;
+  statics = statics;
+  stack = stack;
+  held = held;
+  pending = pending;
+  args = args;
+  all_statics = all_statics;
+  all_statuses = all_statuses;
+}
+
 -- a sound state with other things, which are sound and name what was named
 pub with_things : (p : Program) (s : State) (things : List Thing) → IsSound p s → Grows s.things things → EachOf (IsSoundThing p things) things
     → IsSound p (record s { things = things })
-with_things p s things h g x = record {
-  things = x;
-  statics = values_grow g s.statics h.statics;
-  stack = each_mono (IsSoundEntry s.things) (IsSoundEntry things) (entry_grows g) s.stack h.stack;
-  held = held_grows g s.held h.held;
-  pending = any_grows g s.pending h.pending;
-  args = any_grows g s.args h.args;
-  all_statics = h.all_statics;
-  all_statuses = h.all_statuses;
-}
+with_things p s things h g x =
+    sound_of p (record s { things = things }) x (values_grow g s.statics h.statics) (each_mono (IsSoundEntry s.things) (IsSoundEntry things) (entry_grows g) s.stack h.stack)
+    (held_grows g s.held h.held) (any_grows g s.pending h.pending) (any_grows g s.args h.args) h.all_statics h.all_statuses
 
 -- one more thing
 there_before : (things others : List Thing) (place : ℕ) → is_some (made_of (slice_get things place)) ≡ true → is_some (made_of (slice_get (things ++ others) place)) ≡ true
@@ -291,88 +302,30 @@ module _ (p : Program) (s : State) where
 
   -- a static is set
   static_sound : (field : ℕ) (v : Value) (now : State) → IsSound p now → IsSoundValue now.things v → IsSound p (do_deed (SetStatic field v) now)
-  static_sound field v now h x = record {
-    things = h.things;
-    statics = each_set (IsSoundValue now.things) now.statics field v h.statics x;
-    stack = h.stack;
-    held = h.held;
-    pending = h.pending;
-    args = h.args;
-    all_statics = length_set now.statics field v ∙ h.all_statics;
-    all_statuses = h.all_statuses;
-  }
+  static_sound field v now h x =
+      sound_of p (do_deed (SetStatic field v) now) h.things (each_set (IsSoundValue now.things) now.statics field v h.statics x) h.stack h.held h.pending h.args
+      (length_set now.statics field v ∙ h.all_statics) h.all_statuses
 
+  -- other parts of a state
   stack_sound : (now : State) (stack : List Entry) → IsSound p now → EachOf (IsSoundEntry now.things) stack → IsSound p (record now { stack = stack })
-  stack_sound now stack h x = record {
-    things = h.things;
-    statics = h.statics;
-    stack = x;
-    held = h.held;
-    pending = h.pending;
-    args = h.args;
-    all_statics = h.all_statics;
-    all_statuses = h.all_statuses;
-  }
+  stack_sound now stack h x = sound_of p (record now { stack = stack }) h.things h.statics x h.held h.pending h.args h.all_statics h.all_statuses
 
   status_sound : (c : ℕ) (status : ClassState) (now : State) → IsSound p now → IsSound p (do_deed (SetStatus c status) now)
-  status_sound c status now h = record {
-    things = h.things;
-    statics = h.statics;
-    stack = h.stack;
-    held = h.held;
-    pending = h.pending;
-    args = h.args;
-    all_statics = h.all_statics;
-    all_statuses = length_set now.statuses c status ∙ h.all_statuses;
-  }
+  status_sound c status now h =
+      sound_of p (do_deed (SetStatus c status) now) h.things h.statics h.stack h.held h.pending h.args h.all_statics
+      (length_set now.statuses c status ∙ h.all_statuses)
 
   held_is : (held : Held) (now : State) → IsSound p now → IsSoundHeld now.things held → IsSound p (do_deed (Hold held) now)
-  held_is held now h x = record {
-    things = h.things;
-    statics = h.statics;
-    stack = h.stack;
-    held = x;
-    pending = h.pending;
-    args = h.args;
-    all_statics = h.all_statics;
-    all_statuses = h.all_statuses;
-  }
+  held_is held now h x = sound_of p (do_deed (Hold held) now) h.things h.statics h.stack x h.pending h.args h.all_statics h.all_statuses
 
   pending_is : (r : Option Ref) (now : State) → IsSound p now → IsThereIfAny now.things r → IsSound p (record now { pending = r })
-  pending_is r now h x = record {
-    things = h.things;
-    statics = h.statics;
-    stack = h.stack;
-    held = h.held;
-    pending = x;
-    args = h.args;
-    all_statics = h.all_statics;
-    all_statuses = h.all_statuses;
-  }
+  pending_is r now h x = sound_of p (record now { pending = r }) h.things h.statics h.stack h.held x h.args h.all_statics h.all_statuses
 
   print_sound : (now : State) (bytes : List ℕ) → IsSound p now → IsSound p (do_deed (Print bytes) now)
-  print_sound now bytes h = record {
-    things = h.things;
-    statics = h.statics;
-    stack = h.stack;
-    held = h.held;
-    pending = h.pending;
-    args = h.args;
-    all_statics = h.all_statics;
-    all_statuses = h.all_statuses;
-  }
+  print_sound now bytes h = sound_of p (do_deed (Print bytes) now) h.things h.statics h.stack h.held h.pending h.args h.all_statics h.all_statuses
 
   start_sound : (now : State) → IsSound p now → IsSound p (do_deed Start now)
-  start_sound now h = record {
-    things = h.things;
-    statics = h.statics;
-    stack = h.stack;
-    held = h.held;
-    pending = h.pending;
-    args = h.args;
-    all_statics = h.all_statics;
-    all_statuses = h.all_statuses;
-  }
+  start_sound now h = sound_of p (do_deed Start now) h.things h.statics h.stack h.held h.pending h.args h.all_statics h.all_statuses
 
   -- a field or an element is set
   set_field_sound : (n place : ℕ) (v : Value) (now : State) → IsSound p now → IsSoundValue now.things v → IsSound p (do_deed (SetField n place v) now)
@@ -422,29 +375,16 @@ module _ (p : Program) (s : State) where
     rest_then = λ n ds k now h g same short. k now h g tt;
   }
 
-  entry_sound : (e : Entry) (now : State) → OnEntry (IsSoundValue s.things) e → Grows s.things now.things → IsSoundEntry now.things e
-  entry_sound (Call f) now x g = values_grow g f.registers x
-  entry_sound (Record c phase) now x g = tt
+  phase_sound : (phase : Phase) (now : State) → IsSound p now → IsSound p (do_deed (SetPhase phase) now)
+  phase_sound phase now h = stack_sound now (on_record phase now.stack) h (on_record_sound now.things phase now.stack h.stack)
 
-  sound_steps : ValuedSteps p s (OrNew s.things) (IsSoundIfShort p s.things) Ends (λ n. All) (λ c. Values) All All
+  value_lists : (c : ℕ) → ValueLists p c (IsSoundValue s.things) Values
   unfolding NewThere
-  sound_steps = record {
-    rows = sound_rows;
-    calls = λ f. record { inner = sound_rows f; call_native = λ m ds k now h g same short. k now h g same short.1 };
-    enter = λ c ds k now h g same short. k (do_deed (SetStatus c InProgress) now) (status_sound c InProgress now h) g tt;
-    set_status = λ c status ds e k now h g n. k (do_deed (SetStatus c status) now) (status_sound c status now h) g n;
-    start = λ ds k now h g n. k (do_deed Start now) (start_sound now h) g n;
-    push = λ e ds x k now h g n. k (do_deed (Push e) now) (stack_sound now (e ∷ now.stack) h (entry_sound e now x g, h.stack)) g n;
-    set_phase = λ phase ds k now h g n. k (do_deed (SetPhase phase) now) (stack_sound now (on_record phase now.stack) h (on_record_sound now.things phase now.stack h.stack)) g n;
-    unpend = λ ds k now h g n. k (do_deed Unpend now) (pending_is None now h tt) g n;
-    fails = λ c ds k now h g same short. k (do_all (SetStatus c Erroneous ∷ Pop ∷ []) now)
-        (stack_sound (do_deed (SetStatus c Erroneous) now) (stack_below now.stack) (status_sound c Erroneous now h) (popped_sound (IsSoundEntry now.things) now.stack h.stack))
-        g same short.1.1;
-    first_static = λ c field v ds is x k now h g. k (do_deed (SetStatic field v) now) (static_sound field v now h (value_grows g v x)) g;
-    first_text = λ c field n ds is k now h g. touches n (SetStatic field (At (Lit n)) ∷ ds)
+  value_lists c = record {
+    class = λ n. tt;
+    value = λ field v ds is x k now h g. k (do_deed (SetStatic field v) now) (static_sound field v now h (value_grows g v x)) g;
+    text = λ field n ds is k now h g. touches n (SetStatic field (At (Lit n)) ∷ ds)
         (λ later h2 g2 there. k (do_deed (SetStatic field (At (Lit n))) later) (static_sound field (At (Lit n)) later h2 there) g2) now h g;
-    rest_of_values = λ c ds k now h g. k now h g tt;
-    values = λ c ds k now h g same short. k now h g;
   }
 
 -- the constants of a program
@@ -518,22 +458,63 @@ module _ (p : Program) (w : HasWordConstants p) (things : List Thing) where
   class_inits : (c : ℕ) (d : ClassDesc) → class_at p c ≡ Some d → EachOf (λ (f : FieldDesc). OnInit Sound f.init) d.fields
   class_inits c d e = inits_of d.fields ((each_get ClassHasWords p.classes c d w.classes e).fields)
 
-sound_facts : (p : Program) (s : State) → HasWordConstants p → IsSound p s → StepFacts p s (OrNew s.things) (IsSoundIfShort p s.things) IsSoundText
-sound_facts p s w h = record {
-  rows = λ f below e. facts p s h w.names f (top_sound f below s.stack e h.stack);
-  any = facts p s h w.names no_frame tt;
-  constants = λ f l e. constants_of p w s.things l.insn (insn_words p w s.things f l e);
-  inits = class_inits p w s.things;
-  pending = λ t e. subst (IsThereIfAny s.things) e h.pending;
-  args = args_sound s.args h.args;
-}
-  where
-    top_sound : (f : Frame) (below stack : List Entry) → stack ≡ Call f ∷ below → EachOf (IsSoundEntry s.things) stack → EachOf (IsSoundValue s.things) f.registers
-    top_sound f below stack e x = let y : EachOf (IsSoundEntry s.things) (Call f ∷ below) = subst (EachOf (IsSoundEntry s.things)) e x in y.0
+-- each move
+module _ (p : Program) (s : State) (w : HasWordConstants p) (h : IsSound p s) where
+  top_sound : (f : Frame) (below stack : List Entry) → stack ≡ Call f ∷ below → EachOf (IsSoundEntry s.things) stack → EachOf (IsSoundValue s.things) f.registers
+  top_sound f below stack e x = let y : EachOf (IsSoundEntry s.things) (Call f ∷ below) = subst (EachOf (IsSoundEntry s.things)) e x in y.0
 
-    args_sound : (r : Option Ref) → IsThereIfAny s.things r → EachOf (IsSoundValue s.things) (argument_list r)
-    args_sound None x = (omega arith, tt)
-    args_sound (Some r) x = (x, tt)
+  args_sound : (r : Option Ref) → IsThereIfAny s.things r → EachOf (IsSoundValue s.things) (argument_list r)
+  args_sound None x = (omega arith, tt)
+  args_sound (Some r) x = (x, tt)
+
+  frame_sound : (m : ℕ) (args : List Value) (f : Frame) → EachOf (IsSoundValue s.things) args → entry_frame m (code_of p m) args ≡ Some f → EachOf (IsSoundValue s.things) f.registers
+  frame_sound m args f x e = entry_values (IsSoundValue s.things) (omega arith) m (code_of p m) args f x e
+
+  -- for what needs no register
+  abbrev no_frame : Frame
+  no_frame = record { method = 0; at = 0; registers = [] }
+
+  abbrev g0 : RowFacts p s no_frame (OrNew s.things) (IsSoundIfShort p s.things) IsSoundText
+  g0 = facts p s h w.names no_frame tt
+
+  abbrev r : ValuedLists p s no_frame (OrNew s.things) (IsSoundIfShort p s.things) (Ends p s) (λ n. All p s) (All p s)
+  r = sound_rows p s no_frame
+
+  leaves : Ends p s None (Pop ∷ [])
+  leaves = r.pop None [] (r.none None)
+
+  calls : (f : Frame) → EachOf (IsSoundValue s.things) f.registers → Ends p s None (Push (Call f) ∷ [])
+  calls f x = r.push_call None f [] x (r.none None)
+
+  throws : (class : ℕ) → All p s (Make (new_instance p class) ∷ Pend (next_made s) ∷ [])
+  throws class = r.make (new_instance p class) (Pend (next_made s) ∷ []) (g0.instance class) (pends_new g0 r)
+
+  move_sound : (m : Move p s) → All p s (deeds_in m)
+  unfolding NewThere
+  move_sound (OfRow f below l deeds top at is) =
+      let inner : ValuedCalls p s f (OrNew s.things) (IsSoundIfShort p s.things) (Ends p s) (λ n. All p s) (All p s) (All p s) =
+      record { inner = sound_rows p s f; call_native = λ m ds k now x g same short. k now x g same short.1 } in
+      on_some deeds is (valued_rows (facts p s h w.names f (top_sound f below s.stack top h.stack)) (sound_rows p s f) inner l.units l.insn
+      (constants_of p w s.things l.insn (insn_words p w s.things f l at)))
+  move_sound LeavesFrame = r.rest (Pop ∷ []) leaves
+  move_sound (Handles t c is) = λ now x g same short.
+      let there : IsThereIfAny s.things (Some t) = subst (IsThereIfAny s.things) is h.pending in
+      let goes : Ends p s None (Hold (Thrown t) ∷ Jump c.at ∷ []) = r.hold None (Thrown t) (Jump c.at ∷ []) there (r.jump None c.at [] (r.none None)) in
+      goes (do_deed Unpend now) (pending_is p s None now x tt) g tt
+  move_sound (CallsMain m f is) = λ now x g same short.
+      calls f (frame_sound m (argument_list s.args) f (args_sound s.args h.args) is) (do_deed Start now) (start_sound p s now x) g tt
+  move_sound (SetsValues c d is) = λ now x g same short.
+      class_values (value_lists p s c) d is (class_inits p w s.things c d is) (SetPhase ValuesSet ∷ []) (λ later y g2. phase_sound p s ValuesSet later y) now x g
+  move_sound (Initialises m f is) = λ now x g same short. calls f (frame_sound m [] f tt is) (do_deed (SetPhase Running) now) (phase_sound p s Running now x) g tt
+  move_sound (Completes c phase below top) = λ now x g same short. leaves (do_deed (SetStatus c Done) now) (status_sound p s c Done now x) g tt
+  move_sound (Fails c phase below top) = λ now x g same short. leaves (do_deed (SetStatus c Erroneous) now) (status_sound p s c Erroneous now x) g tt
+  move_sound (Replaces c phase below top class) = λ now x g same short.
+      let after : State = do_deed (SetStatus c Erroneous) now in
+      throws class (do_deed Pop after) (stack_sound p s after (stack_below now.stack) (status_sound p s c Erroneous now x) (popped_sound (IsSoundEntry now.things) now.stack x.stack)) g same short.1.1
+  move_sound (Throws class) = throws class
+  move_sound (EntersClass c is) = λ now x g same short.
+      stack_sound p s (do_deed (SetStatus c InProgress) now) (Record c Entered ∷ now.stack) (status_sound p s c InProgress now x) (tt, x.stack)
+  move_sound (Sees c status is move) = λ now x g same short. move_sound move now x g same short.1
 
 pub steps_keep_sound : StepsKeepSound
-steps_keep_sound = λ p s deeds w h e short. on_some deeds e (valued_steps (sound_facts p s w h) (sound_steps p s)) s h (grows_same s.things) refl short
+steps_keep_sound = λ p s deeds w h e short. by_move (All p s) p s (move_sound p s w h) deeds e s h (grows_same s.things) refl short

@@ -14,8 +14,8 @@ use Rattle.pi_model.specs.declared.insn.Access.{Access}
 use Rattle.pi_model.specs.declared.insn.BinOp.{BinOp}
 use Rattle.pi_model.specs.declared.insn.UnOp.{UnOp}
 use Rattle.pi_model.specs.Arithmetic.{int_result, long_result}
-use Rattle.pi_machine.specs.State.{State, Frame, Call, Held, Nothing, Result, Thrown}
-use Rattle.pi_machine.specs.Deeds.{Look, OfStatic, Deed, Make, Touch, Saw, Reads, Writes, SetStatic, SetField, SetItem, CallNative, Print, Push, Pop, SetReg, Jump, GoOn, Pend, Hold}
+use Rattle.pi_machine.specs.State.{State, Frame, Call, Record, Held, Nothing, Result, Thrown}
+use Rattle.pi_machine.specs.Deeds.{Look, OfStatic, Deed, Make, Touch, Saw, Reads, Writes, SetStatic, SetStatus, SetField, SetItem, CallNative, Print, Start, Push, Pop, SetReg, Jump, GoOn, SetPhase, Pend, Unpend, Hold}
 use Rattle.pi_machine.specs.Objects.{OfArray, shape_at, object_at, field_in, item_in, names_thing}
 use Rattle.pi_machine.specs.Operands.{Deeds, first_do, with_word, with_long, with_ref, with_operand, of_kind, register_of, registers_of, value_list, stored_value, set_word, set_long, set_value, set_and_go, go_on}
 use Rattle.pi_machine.specs.Printed.{long_text}
@@ -208,30 +208,21 @@ abbrev pub valued_calls : {p : Program} {s : State} {f : Frame} {Ends : List Dee
     → RowLists p s f Ends After All → ValuedCalls p s f AnyValue AnyObject (λ new. Ends) After All All
 valued_calls k = record { inner = valued k; call_native = λ m ds h. k.call_native m ds h }
 
--- a property of each deed that rows do, kind by kind
-pub record RowKinds (p : Program) (s : State) (f : Frame) (P : Deed → Type 0) : Type 0 where
-  pub make : (o : Object) → P (Make o)
-  pub touch : (n : ℕ) → P (Touch n)
-  pub saw : (look : Look) → IsSeen p s look → P (Saw look)
-  pub reads : (n : ℕ) → P (Reads n)
-  pub writes : (n : ℕ) → P (Writes n)
-  pub set_static : (field : ℕ) (v : Value) → field < length s.statics → P (SetStatic field v)
-  pub set_field : (n place : ℕ) (v : Value) → HasField s n place → P (SetField n place v)
-  pub set_item : (n place : ℕ) (v : Value) → HasItem s n place → P (SetItem n place v)
-  pub call_native : (m : ℕ) → P (CallNative m)
-  pub print : (bytes : List ℕ) → P (Print bytes)
-  pub push_call : (g : Frame) → P (Push (Call g))
-  pub pop : P Pop
-  pub set_reg : (a : ℕ) (v : Value) → a < length f.registers → P (SetReg a v)
-  pub jump : (to : ℕ) → P (Jump to)
-  pub past_call : P GoOn
-  pub pend : (r : Ref) → P (Pend r)
-  pub hold : (h : Held) → P (Hold h)
-
--- lists of deeds
-pub each_append : (P : Deed → Type 0) (xs ys : List Deed) → EachDeed P xs → EachDeed P ys → EachDeed P (xs ++ ys)
-each_append P [] ys a b = b
-each_append P (x ∷ xs) ys a b = (a.0, each_append P xs ys a.1 b)
+-- what is known of a deed that a row does, but for the call of a native: what is told as read stands so, and what is written
+-- is there
+abbrev pub RowFact : Program → State → Frame → Deed → Type 0
+RowFact p s f (Saw look) = IsSeen p s look
+RowFact p s f (SetStatic field v) = field < length s.statics
+RowFact p s f (SetField n place v) = HasField s n place
+RowFact p s f (SetItem n place v) = HasItem s n place
+RowFact p s f (SetReg a v) = a < length f.registers
+RowFact p s f (SetStatus c status) = ⊥
+RowFact p s f (CallNative m) = ⊥
+RowFact p s f Start = ⊥
+RowFact p s f (Push (Record c phase)) = ⊥
+RowFact p s f (SetPhase phase) = ⊥
+RowFact p s f Unpend = ⊥
+RowFact p s f _ = Unit {0}
 
 -- where each deed of a list fails a test, no deed passes it
 pub each_fails : (test : Deed → Bool) (ds : List Deed) → EachDeed (λ d. test d ≡ false) ds → list_any test ds ≡ false
@@ -242,31 +233,31 @@ each_fails test (d ∷ ds) e = neither (test d) (list_any test ds) e.0 (each_fai
     neither true b x y = x
     neither false b x y = y
 
--- such a property as one of lists
-abbrev pub of_each : {p : Program} {s : State} {f : Frame} {P : Deed → Type 0} → RowKinds p s f P → RowLists p s f (EachDeed P) (λ n. EachDeed P) (EachDeed P)
-of_each k = record {
-  none = tt;
-  push_call = λ g ds h. (k.push_call g, h);
-  pop = λ ds h. (k.pop, h);
-  set_reg = λ a v ds e h. (k.set_reg a v e, h);
-  jump = λ to ds h. (k.jump to, h);
-  past_call = λ ds h. (k.past_call, h);
-  pend = λ r ds h. (k.pend r, h);
-  hold = λ held ds h. (k.hold held, h);
+-- a property of each such deed, as one of lists
+abbrev pub of_each : {p : Program} {s : State} {f : Frame} {P : Deed → Type 0} → ((d : Deed) → RowFact p s f d → P d)
+    → ValuedLists p s f AnyValue AnyObject (λ new. EachDeed P) (λ n. EachDeed P) (EachDeed P)
+of_each one = record {
+  none = λ new. tt;
+  push_call = λ new g ds x h. (one (Push (Call g)) tt, h);
+  pop = λ new ds h. (one Pop tt, h);
+  set_reg = λ new a v ds e x h. (one (SetReg a v) e, h);
+  jump = λ new to ds h. (one (Jump to) tt, h);
+  past_call = λ new ds h. (one GoOn tt, h);
+  pend = λ new r ds x h. (one (Pend r) tt, h);
+  hold = λ new held ds x h. (one (Hold held) tt, h);
   rest = λ ds h. h;
-  make = λ o ds h. (k.make o, h);
-  touch = λ n ds h. (k.touch n, h);
-  saw = λ look ds e is h. (k.saw look e, h);
-  saw_static = λ c field v ds e is h. (k.saw (OfStatic field v) e, h);
-  reads = λ n ds h. (k.reads n, h);
-  call_native = λ m ds h. (k.call_native m, h);
-  print = λ bytes ds h. (k.print bytes, h);
-  set_static = λ c field v ds is e h. (k.set_static field v e, h);
-  writes = λ n ds h. (k.writes n, h);
-  set_field = λ n place v ds e h. (k.set_field n place v e, h);
-  set_item = λ n place v ds e h. (k.set_item n place v e, h);
-  saw_then = λ n look ds e is h. (k.saw look e, h);
-  make_then = λ n o ds h. (k.make o, h);
+  make = λ o ds x h. (one (Make o) tt, h);
+  touch = λ n ds h. (one (Touch n) tt, h);
+  saw = λ look ds e is h. (one (Saw look) e, h);
+  saw_static = λ c field v ds e is h. (one (Saw (OfStatic field v)) e, h);
+  reads = λ n ds h. (one (Reads n) tt, h);
+  print = λ bytes ds h. (one (Print bytes) tt, h);
+  set_static = λ c field v ds is e x h. (one (SetStatic field v) e, h);
+  writes = λ n ds h. (one (Writes n) tt, h);
+  set_field = λ n place v ds e x h. (one (SetField n place v) e, h);
+  set_item = λ n place v ds e x h. (one (SetItem n place v) e, h);
+  saw_then = λ n look ds e is h. (one (Saw look) e, h);
+  make_then = λ n o ds x h. (one (Make o) tt, h);
   rest_then = λ n ds h. h;
 }
 
@@ -336,11 +327,6 @@ module _ {Q : List Deed → Type 0} where
   by_kind kind.Ref (Some (Word zero)) h = h (Word 0) refl
   by_kind kind.Ref (Some (At r)) h = h (At r) refl
   by_kind kind.Ref _ h = stuck
-
-  -- a throwable is made and pending
-  pub throwing : ((o : Object) (r : Ref) → Q (Make o ∷ Pend r ∷ [])) → (p : Program) (s : State) (class : Known) → Does Q (throws p s class)
-  throwing h p s class =
-      made_from (λ c. Make (new_instance p c) ∷ Pend (next_made s) ∷ []) (class_named p (descriptor_of class)) (λ c. h (new_instance p c) (next_made s))
 
 -- operands with their values, results and throws
 module _ {p : Program} {s : State} {f : Frame} {V : Option Ref → Value → Type 0} {O : Object → Type 0} {U : List ℕ → Type 0} (g : RowFacts p s f V O U) where
