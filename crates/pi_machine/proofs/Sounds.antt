@@ -34,8 +34,8 @@ use Rattle.pi_machine.proofs.Truths.{same_self, some_same}
 use Rattle.pi_machine.proofs.WordResults.{narrowed_small}
 use Rattle.pi_machine.proofs.SoundValues.{OrNew, IsSoundIfShort, facts}
 use Rattle.pi_machine.proofs.Each.{each_get, each_found, each_mono, each_joined, each_set}
-use Rattle.pi_machine.proofs.RowDeeds.{OnConstants, valued_rows}
-use Rattle.pi_machine.proofs.RowDeeds.Words.{RowFacts, ValuedLists, ValuedCalls, OnHeld, on_some, pends_new}
+use Rattle.pi_machine.proofs.RowDeeds.{OnConstants, row_lists}
+use Rattle.pi_machine.proofs.RowDeeds.Words.{RowFacts, RowLists, RowCalls, OnHeld, on_some, pends_new}
 use Rattle.pi_machine.proofs.Moves.{Move, OfRow, LeavesFrame, Handles, CallsMain, SetsValues, Initialises, Completes, Fails, Replaces, Throws, EntersClass, Sees, deeds_in, by_move, OnInit, ValueLists, class_values}
 use Rattle.pi_machine.proofs.RowDeeds.Calls.{entry_values}
 use Rattle.pi_machine.specs.Rows.Calls.{entry_frame}
@@ -346,7 +346,7 @@ module _ (p : Program) (s : State) where
       k (do_deed (SetItem n place v) now) (set_item_sound n place v now h (value_grows g v x))
       (grows_on s.things now.things (changed_at (in_thing (with_item place v)) n now.things) g (grows_changed (with_item place v) now.things n)) (count ∙ same) short.1
 
-  sound_rows : (f : Frame) → ValuedLists p s f (OrNew s.things) (IsSoundIfShort p s.things) Ends (λ n. All) All
+  sound_rows : (f : Frame) → RowLists p s f (OrNew s.things) (IsSoundIfShort p s.things) Ends (λ n. All) All
   unfolding NewThere
   sound_rows f = record {
     none = λ new now h g n. h;
@@ -477,7 +477,7 @@ module _ (p : Program) (s : State) (w : HasWordConstants p) (h : IsSound p s) wh
   abbrev g0 : RowFacts p s no_frame (OrNew s.things) (IsSoundIfShort p s.things) IsSoundText
   g0 = facts p s h w.names no_frame tt
 
-  abbrev r : ValuedLists p s no_frame (OrNew s.things) (IsSoundIfShort p s.things) (Ends p s) (λ n. All p s) (All p s)
+  abbrev r : RowLists p s no_frame (OrNew s.things) (IsSoundIfShort p s.things) (Ends p s) (λ n. All p s) (All p s)
   r = sound_rows p s no_frame
 
   leaves : Ends p s None (Pop ∷ [])
@@ -492,9 +492,9 @@ module _ (p : Program) (s : State) (w : HasWordConstants p) (h : IsSound p s) wh
   move_sound : (m : Move p s) → All p s (deeds_in m)
   unfolding NewThere
   move_sound (OfRow f below l deeds top at is) =
-      let inner : ValuedCalls p s f (OrNew s.things) (IsSoundIfShort p s.things) (Ends p s) (λ n. All p s) (All p s) (All p s) =
+      let inner : RowCalls p s f (OrNew s.things) (IsSoundIfShort p s.things) (Ends p s) (λ n. All p s) (All p s) (All p s) =
       record { inner = sound_rows p s f; call_native = λ m ds k now x g same short. k now x g same short.1 } in
-      on_some deeds is (valued_rows (facts p s h w.names f (top_sound f below s.stack top h.stack)) (sound_rows p s f) inner l.units l.insn
+      on_some deeds is (row_lists (facts p s h w.names f (top_sound f below s.stack top h.stack)) (sound_rows p s f) inner l.units l.insn
       (constants_of p w s.things l.insn (insn_words p w s.things f l at)))
   move_sound LeavesFrame = r.rest (Pop ∷ []) leaves
   move_sound (Handles t c is) = λ now x g same short.

@@ -6,12 +6,12 @@ use Rattle.std.specs.List.{list_any}
 use Rattle.pi_model.specs.Program.{Program, all_fields}
 use Rattle.pi_model.specs.Search.{Member, class_at}
 use Rattle.pi_machine.specs.State.{State, Frame, ValuesSet}
-use Rattle.pi_machine.specs.Deeds.{Deed, Make, Touch, Saw, Reads, Writes, SetStatic, SetStatus, SetField, SetItem, CallNative, Print, Start, Push, Pop, SetReg, Jump, GoOn, SetPhase, Pend, Unpend, Hold}
+use Rattle.pi_machine.specs.Deeds.{Deed, Make, Touch, SetStatic, SetStatus, SetField, SetItem, CallNative, SetPhase}
 use Rattle.pi_machine.specs.Acts.{field_class}
 use Rattle.pi_machine.specs.StepLaws.{EachDeed, IsFieldOf}
 use Rattle.pi_machine.specs.StepForms.{is_write, reads_static, Target, StaticsOf, ThingAt, WritesTo, WritesHaveOneTarget, ReadsOf, StaticReadsHaveOneClass, makes, makes_first, enters_class, calls_native, at_most_one, StepsEnterAndCallOnce, StepsMakeFirst, IsPlaceThere, StepWritesAreInside}
-use Rattle.pi_machine.proofs.RowDeeds.{row_lists, row_deeds, valued_rows, any_constants}
-use Rattle.pi_machine.proofs.RowDeeds.Words.{ValuedLists, ValuedCalls, RowFact, AnyValue, AnyObject, RowLists, any_facts, of_each, each_fails, on_some}
+use Rattle.pi_machine.proofs.RowDeeds.{any_rows, row_deeds}
+use Rattle.pi_machine.proofs.RowDeeds.Words.{RowLists, RowCalls, RowFact, AnyValue, AnyObject, of_each, each_fails, on_some}
 use Rattle.pi_machine.proofs.Truths.{neither}
 use Rattle.pi_machine.proofs.Moves.{Move, OfRow, SetsValues, Sees, values_in, deeds_in, by_move, each_value, MoveFact, step_deeds}
 use Rattle.pi_model.specs.declared.describe.ClassDesc.{ClassDesc}
@@ -20,6 +20,11 @@ use Rattle.pi_model.specs.Values.{Value}
 -- the class that declares a field of a class
 pub class_is : (p : Program) (c f : ℕ) → IsFieldOf p c f → field_class p f ≡ Some c
 class_is p c f h = ap (option_map (λ (i : Member). i.class)) h.member
+
+-- what holds of a deed that fails a test, where none of a list passes it
+none_each : (test : Deed → Bool) (P : Deed → Type 0) → ((d : Deed) → test d ≡ false → P d) → (ds : List Deed) → list_any test ds ≡ false → EachDeed P ds
+none_each test P one [] e = tt
+none_each test P one (d ∷ ds) e = let k = neither (test d) (list_any test ds) e in (one d k.0, none_each test P one ds k.1)
 
 -- writes
 module _ (p : Program) where
@@ -33,45 +38,40 @@ module _ (p : Program) where
     pub target : Target
     pub all : Writing target ds
 
-  row_targets : (s : State) (f : Frame) → RowLists p s f NoWrites (λ n. Writing (ThingAt n)) OneTarget
+  row_targets : (s : State) (f : Frame) → RowLists p s f AnyValue AnyObject (λ new. NoWrites) (λ n. Writing (ThingAt n)) OneTarget
   row_targets s f = record {
-    none = λ t. tt;
-    push_call = λ g ds h t. (λ e. cc, h t);
-    pop = λ ds h t. (λ e. cc, h t);
-    set_reg = λ a v ds e h t. (λ e. cc, h t);
-    jump = λ to ds h t. (λ e. cc, h t);
-    past_call = λ ds h t. (λ e. cc, h t);
-    pend = λ r ds h t. (λ e. cc, h t);
-    hold = λ held ds h t. (λ e. cc, h t);
+    none = λ new t. tt;
+    push_call = λ new g ds x h t. (λ e. cc, h t);
+    pop = λ new ds h t. (λ e. cc, h t);
+    set_reg = λ new a v ds e x h t. (λ e. cc, h t);
+    jump = λ new to ds h t. (λ e. cc, h t);
+    past_call = λ new ds h t. (λ e. cc, h t);
+    pend = λ new r ds x h t. (λ e. cc, h t);
+    hold = λ new held ds x h t. (λ e. cc, h t);
     rest = λ ds h. record { target = ThingAt 0; all = h (ThingAt 0) };
-    make = λ o ds h. record { target = ThingAt 0; all = (λ e. cc, h (ThingAt 0)) };
+    make = λ o ds x h. record { target = ThingAt 0; all = (λ e. cc, h (ThingAt 0)) };
     touch = λ n ds h. record { target = ThingAt 0; all = (λ e. cc, h (ThingAt 0)) };
     saw = λ look ds e is h. record { target = h.target; all = (λ e. cc, h.all) };
     saw_static = λ c field v ds e is h. record { target = ThingAt 0; all = (λ e. cc, h (ThingAt 0)) };
     reads = λ n ds h. record { target = h.target; all = (λ e. cc, h.all) };
-    call_native = λ m ds h. record { target = h.target; all = (λ e. cc, h.all) };
     print = λ bytes ds h. record { target = h.target; all = (λ e. cc, h.all) };
-    set_static = λ c field v ds is e h. record { target = StaticsOf c; all = (λ e. ap (option_map StaticsOf) (class_is p c field is), h (StaticsOf c)) };
+    set_static = λ c field v ds is e x h. record { target = StaticsOf c; all = (λ e. ap (option_map StaticsOf) (class_is p c field is), h (StaticsOf c)) };
     writes = λ n ds h. record { target = ThingAt n; all = (λ e. refl, h) };
-    set_field = λ n place v ds e h. (λ e. refl, h);
-    set_item = λ n place v ds e h. (λ e. refl, h);
+    set_field = λ n place v ds e x h. (λ e. refl, h);
+    set_item = λ n place v ds e x h. (λ e. refl, h);
     saw_then = λ n look ds e is h. (λ e. cc, h);
-    make_then = λ n o ds h. (λ e. cc, h (ThingAt n));
+    make_then = λ n o ds x h. (λ e. cc, h (ThingAt n));
     rest_then = λ n ds h. h (ThingAt n);
   }
 
-  no_write : (t : Target) (ds : List Deed) → list_any is_write ds ≡ false → Writing t ds
-  no_write t [] e = tt
-  no_write t (d ∷ ds) e = let k = neither (is_write d) (list_any is_write ds) e in ((λ h. cc (h, k.0)), no_write t ds k.1)
-
   move_target : (s : State) (m : Move p s) → OneTarget (deeds_in m)
-  move_target s (OfRow f below l deeds top at is) = on_some deeds is (row_lists (row_targets s f) l.units l.insn)
+  move_target s (OfRow f below l deeds top at is) = on_some deeds is (any_rows (row_targets s f) (record { inner = row_targets s f; call_native = λ m ds h. record { target = h.target; all = (λ e. cc, h.all) } }) l.units l.insn)
   move_target s (SetsValues c d is) = record {
     target = StaticsOf c;
     all = each_value (WritesTo p (StaticsOf c)) p c d is (λ field v h e. ap (option_map StaticsOf) (class_is p c field h)) (λ n e. cc) (λ e. cc);
   }
   move_target s (Sees c status is move) = let h = move_target s move in record { target = h.target; all = (λ e. cc, h.all) }
-  move_target s m = record { target = ThingAt 0; all = no_write (ThingAt 0) (deeds_in m) refl }
+  move_target s m = record { target = ThingAt 0; all = none_each is_write (WritesTo p (ThingAt 0)) (λ d none h. cc (none, h)) (deeds_in m) refl }
 
 pub writes_have_one_target : WritesHaveOneTarget
 writes_have_one_target = λ p s deeds e. let x : OneTarget p deeds = by_move (OneTarget p) p s (move_target p s) deeds e in (x.target, x.all)
@@ -85,42 +85,37 @@ module _ (p : Program) where
     pub class : ℕ
     pub all : EachDeed (ReadsOf p class) ds
 
-  row_reads : (s : State) (f : Frame) → RowLists p s f NoReads (λ n. NoReads) OneClass
+  row_reads : (s : State) (f : Frame) → RowLists p s f AnyValue AnyObject (λ new. NoReads) (λ n. NoReads) OneClass
   row_reads s f = record {
-    none = λ c. tt;
-    push_call = λ g ds h c. (λ e. cc, h c);
-    pop = λ ds h c. (λ e. cc, h c);
-    set_reg = λ a v ds e h c. (λ e. cc, h c);
-    jump = λ to ds h c. (λ e. cc, h c);
-    past_call = λ ds h c. (λ e. cc, h c);
-    pend = λ r ds h c. (λ e. cc, h c);
-    hold = λ held ds h c. (λ e. cc, h c);
+    none = λ new c. tt;
+    push_call = λ new g ds x h c. (λ e. cc, h c);
+    pop = λ new ds h c. (λ e. cc, h c);
+    set_reg = λ new a v ds e x h c. (λ e. cc, h c);
+    jump = λ new to ds h c. (λ e. cc, h c);
+    past_call = λ new ds h c. (λ e. cc, h c);
+    pend = λ new r ds x h c. (λ e. cc, h c);
+    hold = λ new held ds x h c. (λ e. cc, h c);
     rest = λ ds h. record { class = 0; all = h 0 };
-    make = λ o ds h. record { class = 0; all = (λ e. cc, h 0) };
+    make = λ o ds x h. record { class = 0; all = (λ e. cc, h 0) };
     touch = λ n ds h. record { class = 0; all = (λ e. cc, h 0) };
     saw = λ look ds e is h. record { class = h.class; all = (λ e. cc (is, e), h.all) };
     saw_static = λ c field v ds e is h. record { class = c; all = (λ e. class_is p c field is, h c) };
     reads = λ n ds h. record { class = h.class; all = (λ e. cc, h.all) };
-    call_native = λ m ds h. record { class = h.class; all = (λ e. cc, h.all) };
     print = λ bytes ds h. record { class = h.class; all = (λ e. cc, h.all) };
-    set_static = λ c field v ds is e h. record { class = 0; all = (λ e. cc, h 0) };
+    set_static = λ c field v ds is e x h. record { class = 0; all = (λ e. cc, h 0) };
     writes = λ n ds h. record { class = 0; all = (λ e. cc, h 0) };
-    set_field = λ n place v ds e h c. (λ e. cc, h c);
-    set_item = λ n place v ds e h c. (λ e. cc, h c);
+    set_field = λ n place v ds e x h c. (λ e. cc, h c);
+    set_item = λ n place v ds e x h c. (λ e. cc, h c);
     saw_then = λ n look ds e is h c. (λ e. cc (is, e), h c);
-    make_then = λ n o ds h c. (λ e. cc, h c);
+    make_then = λ n o ds x h c. (λ e. cc, h c);
     rest_then = λ n ds h. h;
   }
 
-  no_read : (c : ℕ) (ds : List Deed) → list_any reads_static ds ≡ false → EachDeed (ReadsOf p c) ds
-  no_read c [] e = tt
-  no_read c (d ∷ ds) e = let k = neither (reads_static d) (list_any reads_static ds) e in ((λ h. cc (h, k.0)), no_read c ds k.1)
-
   move_reads : (s : State) (m : Move p s) → OneClass (deeds_in m)
-  move_reads s (OfRow f below l deeds top at is) = on_some deeds is (row_lists (row_reads s f) l.units l.insn)
+  move_reads s (OfRow f below l deeds top at is) = on_some deeds is (any_rows (row_reads s f) (record { inner = row_reads s f; call_native = λ m ds h. record { class = h.class; all = (λ e. cc, h.all) } }) l.units l.insn)
   move_reads s (SetsValues c d is) = record { class = c; all = each_value (ReadsOf p c) p c d is (λ field v h e. cc) (λ n e. cc) (λ e. cc) }
   move_reads s (Sees c status is move) = let h = move_reads s move in record { class = h.class; all = (λ e. cc, h.all) }
-  move_reads s m = record { class = 0; all = no_read 0 (deeds_in m) refl }
+  move_reads s m = record { class = 0; all = none_each reads_static (ReadsOf p 0) (λ d none h. cc (none, h)) (deeds_in m) refl }
 
 pub static_reads_have_one_class : StaticReadsHaveOneClass
 static_reads_have_one_class = λ p s deeds e. let x : OneClass p deeds = by_move (OneClass p) p s (move_reads p s) deeds e in (x.class, x.all)
@@ -140,50 +135,31 @@ none_first : (ds : List Deed) → MakesNone ds → MakesFirst ds
 none_first [] e = refl
 none_first (Make o ∷ ds) e = cc
 none_first (Touch n ∷ ds) e = not_true (list_any makes ds) e
-none_first (Saw look ∷ ds) e = none_first ds e
-none_first (Reads n ∷ ds) e = none_first ds e
-none_first (Writes n ∷ ds) e = none_first ds e
-none_first (SetStatic f v ∷ ds) e = none_first ds e
-none_first (SetStatus c status ∷ ds) e = none_first ds e
-none_first (SetField n i v ∷ ds) e = none_first ds e
-none_first (SetItem n i v ∷ ds) e = none_first ds e
-none_first (CallNative m ∷ ds) e = none_first ds e
-none_first (Print bytes ∷ ds) e = none_first ds e
-none_first (Start ∷ ds) e = none_first ds e
-none_first (Push x ∷ ds) e = none_first ds e
-none_first (Pop ∷ ds) e = none_first ds e
-none_first (SetReg a v ∷ ds) e = none_first ds e
-none_first (Jump to ∷ ds) e = none_first ds e
-none_first (GoOn ∷ ds) e = none_first ds e
-none_first (SetPhase phase ∷ ds) e = none_first ds e
-none_first (Pend r ∷ ds) e = none_first ds e
-none_first (Unpend ∷ ds) e = none_first ds e
-none_first (Hold h ∷ ds) e = none_first ds e
+none_first (d ∷ ds) e = none_first ds e
 
-row_makes : (p : Program) (s : State) (f : Frame) → RowLists p s f MakesNone (λ n. MakesFirst) MakesFirst
+row_makes : (p : Program) (s : State) (f : Frame) → RowLists p s f AnyValue AnyObject (λ new. MakesNone) (λ n. MakesFirst) MakesFirst
 row_makes p s f = record {
-  none = refl;
-  push_call = λ g ds h. h;
-  pop = λ ds h. h;
-  set_reg = λ a v ds e h. h;
-  jump = λ to ds h. h;
-  past_call = λ ds h. h;
-  pend = λ r ds h. h;
-  hold = λ held ds h. h;
+  none = λ new. refl;
+  push_call = λ new g ds x h. h;
+  pop = λ new ds h. h;
+  set_reg = λ new a v ds e x h. h;
+  jump = λ new to ds h. h;
+  past_call = λ new ds h. h;
+  pend = λ new r ds x h. h;
+  hold = λ new held ds x h. h;
   rest = λ ds h. none_first ds h;
-  make = λ o ds h. not_true (list_any makes ds) h;
+  make = λ o ds x h. not_true (list_any makes ds) h;
   touch = λ n ds h. not_true (list_any makes ds) h;
   saw = λ look ds e is h. h;
   saw_static = λ c field v ds e is h. none_first ds h;
   reads = λ n ds h. h;
-  call_native = λ m ds h. h;
   print = λ bytes ds h. h;
-  set_static = λ c field v ds is e h. none_first ds h;
+  set_static = λ c field v ds is e x h. none_first ds h;
   writes = λ n ds h. h;
-  set_field = λ n place v ds e h. h;
-  set_item = λ n place v ds e h. h;
+  set_field = λ n place v ds e x h. h;
+  set_item = λ n place v ds e x h. h;
   saw_then = λ n look ds e is h. h;
-  make_then = λ n o ds h. not_true (list_any makes ds) h;
+  make_then = λ n o ds x h. not_true (list_any makes ds) h;
   rest_then = λ n ds h. none_first ds h;
 }
 
@@ -193,7 +169,7 @@ no_value : (test : Deed → Bool) (p : Program) (c : ℕ) (d : ClassDesc) → cl
 no_value test p c d e value touch phase = each_fails test (values_in p c d) (each_value (λ d. test d ≡ false) p c d e (λ field v h. value field v) touch phase)
 
 move_makes : (p : Program) (s : State) (m : Move p s) → MakesFirst (deeds_in m)
-move_makes p s (OfRow f below l deeds top at is) = on_some deeds is (row_lists (row_makes p s f) l.units l.insn)
+move_makes p s (OfRow f below l deeds top at is) = on_some deeds is (any_rows (row_makes p s f) (record { inner = row_makes p s f; call_native = λ m ds h. h }) l.units l.insn)
 move_makes p s (SetsValues c d is) = none_first (values_in p c d) (no_value makes p c d is (λ field v. refl) (λ n. refl) refl)
 move_makes p s (Sees c status is move) = move_makes p s move
 move_makes p s m = refl
@@ -246,7 +222,7 @@ inner_calls : (p : Program) (s : State) (f : Frame) (d : Deed) → RowFact p s f
 inner_calls p s f (CallNative m) h = absurd h
 inner_calls p s f _ h = refl
 
-row_calls : (p : Program) (s : State) (f : Frame) → ValuedLists p s f AnyValue AnyObject (λ new. CallsNone) (λ n. CallsNone) CallsOne
+row_calls : (p : Program) (s : State) (f : Frame) → RowLists p s f AnyValue AnyObject (λ new. CallsNone) (λ n. CallsNone) CallsOne
 row_calls p s f = record {
   none = λ new. tt;
   push_call = λ new g ds x h. (refl, h);
@@ -272,7 +248,7 @@ row_calls p s f = record {
   rest_then = λ n ds h. h;
 }
 
-native_calls : (p : Program) (s : State) (f : Frame) → ValuedCalls p s f AnyValue AnyObject (λ new. CallsNone) (λ n. CallsNone) CallsNone CallsOne
+native_calls : (p : Program) (s : State) (f : Frame) → RowCalls p s f AnyValue AnyObject (λ new. CallsNone) (λ n. CallsNone) CallsNone CallsOne
 native_calls p s f = record {
   inner = of_each (inner_calls p s f);
   call_native = λ m ds h. not_true (list_any calls_native ds) (each_fails calls_native ds h);
@@ -280,7 +256,7 @@ native_calls p s f = record {
 
 move_calls : (p : Program) (s : State) (m : Move p s) → CallsOne (deeds_in m)
 move_calls p s (OfRow f below l deeds top at is) =
-    on_some deeds is (valued_rows (any_facts p s f) (row_calls p s f) (native_calls p s f) l.units l.insn (any_constants l.insn))
+    on_some deeds is (any_rows (row_calls p s f) (native_calls p s f) l.units l.insn)
 move_calls p s (SetsValues c d is) = none_one calls_native (values_in p c d) (no_value calls_native p c d is (λ field v. refl) (λ n. refl) refl)
 move_calls p s (Sees c status is move) = move_calls p s move
 move_calls p s m = refl

@@ -13,7 +13,7 @@ use Rattle.pi_machine.specs.Sound.{EachOf}
 use Rattle.pi_model.specs.Fields.{new_instance}
 use Rattle.pi_machine.specs.Objects.{Shape, OfArray, shape_at, object_at, item_in, items_in}
 use Rattle.pi_machine.specs.Natives.{Native, PrintInt, PrintLong, PrintText, Clone, GetClass, StringLength, CharAt, StringEquals, Concat, ArrayCopy, OfLong, OfChars, Outcome, Gives, Fails, gives_word, gives_text, is_index, is_range, units_in, component, sees_items, sets_items, may_clone, copies, clone_does, type_name_of, char_at_does, same_units, equals_does, concat_does, fits_component, fitting_front, ends_copy, copies_items, same_components, copies_between, array_copy_does, words_in, of_chars_does, print_text_does, native_does}
-use Rattle.pi_machine.proofs.RowDeeds.Words.{RowFacts, ValuedLists, OnHeld, goes_on, pends_new}
+use Rattle.pi_machine.proofs.RowDeeds.Words.{RowFacts, RowLists, OnHeld, goes_on, pends_new}
 use Rattle.pi_machine.proofs.RowDeeds.Objects.{sets_items_deeds, truth_small}
 
 -- the deeds of a native as the end of its step: what it gives is held and the run goes on, or a throwable is made and pending
@@ -142,7 +142,7 @@ module _ {p : Program} {s : State} {f : Frame} {V : Option Ref → Value → Typ
 
 module _ {p : Program} {s : State} {f : Frame} {V : Option Ref → Value → Type 0} {O : Object → Type 0} {U : List ℕ → Type 0}
     {Ends : Option Ref → List Deed → Type 0} {After : ℕ → List Deed → Type 0} {All : List Deed → Type 0}
-    (g : RowFacts p s f V O U) (k : ValuedLists p s f V O Ends After All) where
+    (g : RowFacts p s f V O U) (k : RowLists p s f V O Ends After All) where
   -- the ends of a native
   holds_and_goes : (new : Option Ref) (held : Held) (units : ℕ) → OnHeld (V new) held → Ends new (Hold held ∷ go_on f units)
   holds_and_goes new held units x = k.hold new held (go_on f units) x (goes_on g k new units)

@@ -22,7 +22,7 @@ use Rattle.pi_machine.specs.Operands.{Deeds, register_of}
 use Rattle.pi_machine.specs.Rows.Registers.{move_row, move_result_row, move_exception_row, returns, return_row, const_string_row, const_class_row}
 use Rattle.pi_machine.specs.Rows.Numbers.{takes_long, unary_value, with_number, unary_row, result_or_throw, is_shift, binary_row, binary_literal_row, compare_long_row, branch, comparison, branch_by, if_row, if_zero_row, to_case, switch_row}
 use Rattle.pi_machine.proofs.Truths.{some_same}
-use Rattle.pi_machine.proofs.RowDeeds.Words.{Does, RowFacts, ValuedLists, OnHeld, number, stuck, these, before, by_word, by_long, by_operand, by_kind, goes, sets_last, sets, thrown}
+use Rattle.pi_machine.proofs.RowDeeds.Words.{Does, RowFacts, RowLists, OnHeld, number, stuck, these, before, by_word, by_long, by_operand, by_kind, goes, sets_last, sets, thrown}
 
 mapped : (V : Value → Type 0) (make : ℕ → Value) (o : Option ℕ) → ((r : ℕ) → o ≡ Some r → V (make r)) → (w : Value) → option_map make o ≡ Some w → V w
 mapped V make None h w e = cc
@@ -39,7 +39,7 @@ comparison_small m n = by_order (int_lt (cast_signed w64 m) (cast_signed w64 n))
 
 module _ {p : Program} {s : State} {f : Frame} {V : Option Ref → Value → Type 0} {O : Object → Type 0} {U : List ℕ → Type 0}
     {Ends : Option Ref → List Deed → Type 0} {After : ℕ → List Deed → Type 0} {All : List Deed → Type 0}
-    (g : RowFacts p s f V O U) (k : ValuedLists p s f V O Ends After All) where
+    (g : RowFacts p s f V O U) (k : RowLists p s f V O Ends After All) where
   -- registers
   pub move_deeds : (units : ℕ) (kd : Kind) (a b : ℕ) → Does All (move_row s f units kd a b)
   move_deeds units kd a b = by_operand g kd b (λ v x. sets g k units a v x)

@@ -25,7 +25,7 @@ use Rattle.pi_machine.specs.Rows.Arrays.{with_array, is_array, item_letter, firs
 use Rattle.pi_machine.specs.Sound.{EachOf}
 use Rattle.pi_machine.specs.StepLaws.{HasField}
 use Rattle.pi_machine.proofs.FieldNumbers.{found_field}
-use Rattle.pi_machine.proofs.RowDeeds.Words.{Does, RowFacts, ValuedLists, stuck, these, before, either, if_found, if_found_as, by_word, by_ref, by_operand, registers_values, registers_count, by_kind, either_is, goes_on, goes, sets_last, sets_new, sets, thrown}
+use Rattle.pi_machine.proofs.RowDeeds.Words.{Does, RowFacts, RowLists, stuck, these, before, either, if_found, if_found_as, by_word, by_ref, by_operand, registers_values, registers_count, by_kind, either_is, goes_on, goes, sets_last, sets_new, sets, thrown}
 
 -- an index within a length is below it
 pub index_within : (i n : ℕ) → is_index i n ≡ true → i < n
@@ -48,7 +48,7 @@ test_is a b e = not_false (a == b) e
 
 module _ {p : Program} {s : State} {f : Frame} {V : Option Ref → Value → Type 0} {O : Object → Type 0} {U : List ℕ → Type 0}
     {Ends : Option Ref → List Deed → Type 0} {After : ℕ → List Deed → Type 0} {All : List Deed → Type 0}
-    (g : RowFacts p s f V O U) (k : ValuedLists p s f V O Ends After All) where
+    (g : RowFacts p s f V O U) (k : RowLists p s f V O Ends After All) where
   -- objects
   pub new_instance_deeds : (units a : ℕ) (t : NameNo) → Does All (new_instance_row p s f units a t)
   new_instance_deeds units a t = if_found (class_of p t) (λ c.

@@ -36,34 +36,6 @@ OnDeeds Q (Some ds) = Q ds
 pub record Does (Q : List Deed → Type 0) (ds : Deeds) : Type 0 where
   pub each : OnDeeds Q ds
 
--- Properties of the lists of deeds that the row of a frame's instruction does, by what comes first. `All` is of whole lists,
--- `After n` of what follows the mark that thing n is written, and `Ends` of what ends a step: it makes, touches and writes
--- nothing. What is told as read stands so in the state, and what is written is there.
-pub record RowLists (p : Program) (s : State) (f : Frame) (Ends : List Deed → Type 0) (After : ℕ → List Deed → Type 0) (All : List Deed → Type 0) : Type 0 where
-  pub none : Ends []
-  pub push_call : (g : Frame) (ds : List Deed) → Ends ds → Ends (Push (Call g) ∷ ds)
-  pub pop : (ds : List Deed) → Ends ds → Ends (Pop ∷ ds)
-  pub set_reg : (a : ℕ) (v : Value) (ds : List Deed) → a < length f.registers → Ends ds → Ends (SetReg a v ∷ ds)
-  pub jump : (to : ℕ) (ds : List Deed) → Ends ds → Ends (Jump to ∷ ds)
-  pub past_call : (ds : List Deed) → Ends ds → Ends (GoOn ∷ ds)
-  pub pend : (r : Ref) (ds : List Deed) → Ends ds → Ends (Pend r ∷ ds)
-  pub hold : (h : Held) (ds : List Deed) → Ends ds → Ends (Hold h ∷ ds)
-  pub rest : (ds : List Deed) → Ends ds → All ds
-  pub make : (o : Object) (ds : List Deed) → Ends ds → All (Make o ∷ ds)
-  pub touch : (n : ℕ) (ds : List Deed) → Ends ds → All (Touch n ∷ ds)
-  pub saw : (look : Look) (ds : List Deed) → IsSeen p s look → reads_static (Saw look) ≡ false → All ds → All (Saw look ∷ ds)
-  pub saw_static : (c field : ℕ) (v : Value) (ds : List Deed) → IsSeen p s (OfStatic field v) → IsFieldOf p c field → Ends ds → All (Saw (OfStatic field v) ∷ ds)
-  pub reads : (n : ℕ) (ds : List Deed) → All ds → All (Reads n ∷ ds)
-  pub call_native : (m : ℕ) (ds : List Deed) → All ds → All (CallNative m ∷ ds)
-  pub print : (bytes : List ℕ) (ds : List Deed) → All ds → All (Print bytes ∷ ds)
-  pub set_static : (c field : ℕ) (v : Value) (ds : List Deed) → IsFieldOf p c field → field < length s.statics → Ends ds → All (SetStatic field v ∷ ds)
-  pub writes : (n : ℕ) (ds : List Deed) → After n ds → All (Writes n ∷ ds)
-  pub set_field : (n place : ℕ) (v : Value) (ds : List Deed) → HasField s n place → After n ds → After n (SetField n place v ∷ ds)
-  pub set_item : (n place : ℕ) (v : Value) (ds : List Deed) → HasItem s n place → After n ds → After n (SetItem n place v ∷ ds)
-  pub saw_then : (n : ℕ) (look : Look) (ds : List Deed) → IsSeen p s look → reads_static (Saw look) ≡ false → After n ds → After n (Saw look ∷ ds)
-  pub make_then : (n : ℕ) (o : Object) (ds : List Deed) → Ends ds → After n (Make o ∷ ds)
-  pub rest_then : (n : ℕ) (ds : List Deed) → Ends ds → After n ds
-
 -- a word, or a long
 abbrev pub number : Bool → ℕ → Value
 number true n = Long n
@@ -105,8 +77,11 @@ pub record RowFacts (p : Program) (s : State) (f : Frame) (V : Option Ref → Va
   pub instance : (c : ℕ) → O (new_instance p c)
   pub zeros : (ty n letter : ℕ) → n < 2 ^ 31 → O (Array ty (replicate n (first_item letter)))
 
--- the same of lists of deeds with their values
-pub record ValuedLists (p : Program) (s : State) (f : Frame) (V : Option Ref → Value → Type 0) (O : Object → Type 0)
+-- Properties of the lists of deeds that the row of a frame's instruction does, by what comes first. `All` is of whole lists,
+-- `After n` of what follows the mark that thing n is written, and `Ends` of what ends a step: it makes, touches and writes
+-- nothing. What is told as read stands so in the state, and what is written is there. Values that are set have the property
+-- `V`, and objects that are made have `O`.
+pub record RowLists (p : Program) (s : State) (f : Frame) (V : Option Ref → Value → Type 0) (O : Object → Type 0)
     (Ends : Option Ref → List Deed → Type 0) (After : ℕ → List Deed → Type 0) (All : List Deed → Type 0) : Type 0 where
   pub none : (new : Option Ref) → Ends new []
   pub push_call : (new : Option Ref) (g : Frame) (ds : List Deed) → EachOf (V None) g.registers → Ends new ds → Ends new (Push (Call g) ∷ ds)
@@ -132,9 +107,9 @@ pub record ValuedLists (p : Program) (s : State) (f : Frame) (V : Option Ref →
   pub rest_then : (n : ℕ) (ds : List Deed) → Ends None ds → After n ds
 
 -- what follows the call of a native has a property of its own, `Inner`
-pub record ValuedCalls (p : Program) (s : State) (f : Frame) (V : Option Ref → Value → Type 0) (O : Object → Type 0)
+pub record RowCalls (p : Program) (s : State) (f : Frame) (V : Option Ref → Value → Type 0) (O : Object → Type 0)
     (Ends : Option Ref → List Deed → Type 0) (After : ℕ → List Deed → Type 0) (Inner All : List Deed → Type 0) : Type 0 where
-  pub inner : ValuedLists p s f V O Ends After Inner
+  pub inner : RowLists p s f V O Ends After Inner
   pub call_native : (m : ℕ) (ds : List Deed) → Inner ds → All (CallNative m ∷ ds)
 
 -- where nothing is asked of values
@@ -177,37 +152,6 @@ any_facts p s f = record {
   zeros = λ ty n letter e. tt;
 }
 
-abbrev pub valued : {p : Program} {s : State} {f : Frame} {Ends : List Deed → Type 0} {After : ℕ → List Deed → Type 0} {All : List Deed → Type 0}
-    → RowLists p s f Ends After All → ValuedLists p s f AnyValue AnyObject (λ new. Ends) After All
-valued k = record {
-  none = λ new. k.none;
-  push_call = λ new g ds x h. k.push_call g ds h;
-  pop = λ new ds h. k.pop ds h;
-  set_reg = λ new a v ds e x h. k.set_reg a v ds e h;
-  jump = λ new to ds h. k.jump to ds h;
-  past_call = λ new ds h. k.past_call ds h;
-  pend = λ new r ds x h. k.pend r ds h;
-  hold = λ new held ds x h. k.hold held ds h;
-  rest = λ ds h. k.rest ds h;
-  make = λ o ds x h. k.make o ds h;
-  touch = λ n ds h. k.touch n ds h;
-  saw = λ look ds e is h. k.saw look ds e is h;
-  saw_static = λ c field v ds e is h. k.saw_static c field v ds e is h;
-  reads = λ n ds h. k.reads n ds h;
-  print = λ bytes ds h. k.print bytes ds h;
-  set_static = λ c field v ds is e x h. k.set_static c field v ds is e h;
-  writes = λ n ds h. k.writes n ds h;
-  set_field = λ n place v ds e x h. k.set_field n place v ds e h;
-  set_item = λ n place v ds e x h. k.set_item n place v ds e h;
-  saw_then = λ n look ds e is h. k.saw_then n look ds e is h;
-  make_then = λ n o ds x h. k.make_then n o ds h;
-  rest_then = λ n ds h. k.rest_then n ds h;
-}
-
-abbrev pub valued_calls : {p : Program} {s : State} {f : Frame} {Ends : List Deed → Type 0} {After : ℕ → List Deed → Type 0} {All : List Deed → Type 0}
-    → RowLists p s f Ends After All → ValuedCalls p s f AnyValue AnyObject (λ new. Ends) After All All
-valued_calls k = record { inner = valued k; call_native = λ m ds h. k.call_native m ds h }
-
 -- what is known of a deed that a row does, but for the call of a native: what is told as read stands so, and what is written
 -- is there
 abbrev pub RowFact : Program → State → Frame → Deed → Type 0
@@ -235,7 +179,7 @@ each_fails test (d ∷ ds) e = neither (test d) (list_any test ds) e.0 (each_fai
 
 -- a property of each such deed, as one of lists
 abbrev pub of_each : {p : Program} {s : State} {f : Frame} {P : Deed → Type 0} → ((d : Deed) → RowFact p s f d → P d)
-    → ValuedLists p s f AnyValue AnyObject (λ new. EachDeed P) (λ n. EachDeed P) (EachDeed P)
+    → RowLists p s f AnyValue AnyObject (λ new. EachDeed P) (λ n. EachDeed P) (EachDeed P)
 of_each one = record {
   none = λ new. tt;
   push_call = λ new g ds x h. (one (Push (Call g)) tt, h);
@@ -359,7 +303,7 @@ registers_count f (a ∷ regs) vs e = by_joined (register_of f a) (registers_of 
 
 module _ {p : Program} {s : State} {f : Frame} {V : Option Ref → Value → Type 0} {O : Object → Type 0} {U : List ℕ → Type 0}
     {Ends : Option Ref → List Deed → Type 0} {After : ℕ → List Deed → Type 0} {All : List Deed → Type 0}
-    (g : RowFacts p s f V O U) (k : ValuedLists p s f V O Ends After All) where
+    (g : RowFacts p s f V O U) (k : RowLists p s f V O Ends After All) where
   pub goes_on : (new : Option Ref) (units : ℕ) → Ends new (go_on f units)
   goes_on new units = k.jump new (f.at + units) [] (k.none new)
 
