@@ -16,10 +16,11 @@ use Rattle.pi_machine.specs.Deeds.{Deed, Make, Jump}
 use Rattle.pi_machine.specs.Natives.{native_table}
 use Rattle.pi_machine.specs.Initialisation.{is_clinit}
 use Rattle.pi_machine.specs.Start.{first_state}
+use Rattle.pi_machine.proofs.Examples.{Same}
 use Rattle.pi_machine.proofs.Sample.{chain, class, object, own, void, method, clinit_method, code, method_ref}
 use Rattle.pi_attempt.specs.Watch.{Why, Heap, Frames, reason, reason_if, image_limit, entry_state}
 use Rattle.pi_attempt.specs.Fold.{Held, Lazy}
-use Rattle.pi_attempt.proofs.Helpers.{Reports, second, names, one}
+use Rattle.pi_attempt.proofs.Helpers.{reports, second, names, one}
 
 -- in the attempt of C: the step that makes an array of n ints
 abbrev makes : ℕ → List Deed
@@ -65,10 +66,10 @@ deep registers = chain names (class 1 (own 0) 1 (Some object) [] []
     ∷ method (own 7) [] void 9 (code 65531 0 (ReturnVoid ∷ []) [])
     ∷ []) ∷ [])
 
-words_suffice : Reports (deep 0) (second 100 (29 ∷ [])) (Held 13 ∷ [])
-unfolding descriptor_of native_table is_virtual is_clinit
-words_suffice = refl
-
-one_word_more : Reports (deep 1) (second 100 (29 ∷ [])) (Lazy Frames ∷ [])
-unfolding descriptor_of native_table is_virtual is_clinit
-one_word_more = refl
+words : Same (
+    reports (deep 0) (second 100 (29 ∷ [])) (Held 13 ∷ [])
+    -- one word more does not do
+    ∷ reports (deep 1) (second 100 (29 ∷ [])) (Lazy Frames ∷ [])
+    ∷ [])
+unfolding reports
+words = refl

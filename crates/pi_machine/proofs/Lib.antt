@@ -3,7 +3,7 @@ mod ActExamples
 pub mod Changes
 mod Costs
 pub mod Each
-mod Examples
+pub mod Examples
 pub mod Ended
 pub mod FieldNumbers
 mod Five
