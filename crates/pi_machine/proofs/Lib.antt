@@ -34,8 +34,10 @@ pub mod Sample
 pub mod Statuses
 pub mod Moves
 pub mod StepForms
+mod SoundConstants
 mod SoundExamples
 pub mod SoundStarts
+mod SoundThings
 pub mod SoundValues
 pub mod Sounds
 mod Stuck
