@@ -1,11 +1,15 @@
 -- Helpers for worked selections: image lines, classes with one static int, and what is reported.
-use Rattle.std.proofs.Common.{Some, ◌≡◌, ℕ, List, [], ◌∷◌, Option}
+use Rattle.std.proofs.Common.{Some, ℕ, List, [], ◌∷◌, map, Option}
 use Rattle.std.specs.Prelude.{codes, option_map}
 use Rattle.pi_model.specs.declared.describe.ClassDesc.{ClassDesc}
 use Rattle.pi_model.specs.declared.insn.Insn.{Insn}
 use Rattle.pi_model.specs.declared.insn.Insn.TheVariants.{Sget, Sput}
 use Rattle.pi_model.specs.declared.insn.Access.TheVariants.{Plain}
+use Rattle.pi_model.specs.Dispatch.{is_virtual}
+use Rattle.pi_model.specs.Known.{descriptor_of}
 use Rattle.pi_model.specs.Program.{Program}
+use Rattle.pi_machine.specs.Initialisation.{is_clinit}
+use Rattle.pi_machine.specs.Natives.{native_table}
 use Rattle.pi_machine.proofs.Sample.{chain, class, object, own, no, int, static_field, clinit_method, code, field_ref}
 use Rattle.pi_attempt.specs.Fold.{Line, Verdict, preinitialise, report}
 
@@ -16,13 +20,10 @@ x = 68
 abbrev pub line : ℕ → List ℕ → Line
 line budget selected = record { budget = budget; selected = selected }
 
--- the verdicts on the selected classes, in order
-abbrev pub Reports : Program → List Line → List Verdict → Type 0
-Reports p lines verdicts = option_map (report lines) (preinitialise p lines) ≡ Some (each verdicts)
-  where
-    each : List Verdict → List (Option Verdict)
-    each [] = []
-    each (v ∷ vs) = Some v ∷ each vs
+-- the verdicts on the selected classes, in order, and what they are to be
+unfoldable pub reports : Program → List Line → List Verdict → Option (List (Option Verdict)) × Option (List (Option Verdict))
+unfolding descriptor_of native_table is_virtual is_clinit
+reports p lines verdicts = (option_map (report lines) (preinitialise p lines), Some (map Some verdicts))
 
 -- nothing of the first file is selected; the classes of the second file are numbered from 29 on
 abbrev pub second : ℕ → List ℕ → List Line

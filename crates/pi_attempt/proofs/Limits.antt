@@ -16,10 +16,11 @@ use Rattle.pi_machine.specs.Deeds.{Deed, Make, Jump}
 use Rattle.pi_machine.specs.Natives.{native_table}
 use Rattle.pi_machine.specs.Initialisation.{is_clinit}
 use Rattle.pi_machine.specs.Start.{first_state}
+use Rattle.pi_machine.proofs.Examples.{Same}
 use Rattle.pi_machine.proofs.Sample.{chain, class, object, own, void, method, clinit_method, code, method_ref}
-use Rattle.pi_attempt.specs.Watch.{Why, Heap, Frames, reason, when, image_limit, entered}
+use Rattle.pi_attempt.specs.Watch.{Why, Heap, Frames, reason, reason_if, image_limit, entry_state}
 use Rattle.pi_attempt.specs.Fold.{Held, Lazy}
-use Rattle.pi_attempt.proofs.Helpers.{Reports, second, names, one}
+use Rattle.pi_attempt.proofs.Helpers.{reports, second, names, one}
 
 -- in the attempt of C: the step that makes an array of n ints
 abbrev makes : ℕ → List Deed
@@ -30,7 +31,7 @@ abbrev chain_of_c : Program
 chain_of_c = one (ReturnVoid ∷ [])
 
 abbrev in_c : State
-in_c = entered 29 1 (first_state chain_of_c)
+in_c = entry_state 29 1 (first_state chain_of_c)
 
 or_none : (o : Option Why) → or_else o None ≡ o
 or_none None = refl
@@ -40,9 +41,9 @@ alone : (n : ℕ) → 0 + (n + 0) ≡ n
 alone n = omega arith
 
 -- the object bytes are those of the one array
-made_bytes : (n : ℕ) → reason chain_of_c 29 1 false in_c (makes n) ≡ when (nat_lt image_limit (array_bytes 4 n)) Heap
+made_bytes : (n : ℕ) → reason chain_of_c 29 1 false in_c (makes n) ≡ reason_if (nat_lt image_limit (array_bytes 4 n)) Heap
 unfolding descriptor_of native_table is_virtual is_clinit
-made_bytes n = rw (length-replicate n (Word 0), alone (array_bytes 4 n)) (or_none (when (nat_lt image_limit (array_bytes 4 n)) Heap))
+made_bytes n = rw (length-replicate n (Word 0), alone (array_bytes 4 n)) (or_none (reason_if (nat_lt image_limit (array_bytes 4 n)) Heap))
 
 -- 8,388,604 ints with the header of sixteen bytes are all that an image may have
 fits_exactly : reason chain_of_c 29 1 false in_c (makes 8388604) ≡ None
@@ -65,10 +66,10 @@ deep registers = chain names (class 1 (own 0) 1 (Some object) [] []
     ∷ method (own 7) [] void 9 (code 65531 0 (ReturnVoid ∷ []) [])
     ∷ []) ∷ [])
 
-words_suffice : Reports (deep 0) (second 100 (29 ∷ [])) (Held 13 ∷ [])
-unfolding descriptor_of native_table is_virtual is_clinit
-words_suffice = refl
-
-one_word_more : Reports (deep 1) (second 100 (29 ∷ [])) (Lazy Frames ∷ [])
-unfolding descriptor_of native_table is_virtual is_clinit
-one_word_more = refl
+words : Same (
+    reports (deep 0) (second 100 (29 ∷ [])) (Held 13 ∷ [])
+    -- one word more does not do
+    ∷ reports (deep 1) (second 100 (29 ∷ [])) (Lazy Frames ∷ [])
+    ∷ [])
+unfolding reports
+words = refl

@@ -8,7 +8,7 @@ use Rattle.pi_machine.specs.Start.{first_state}
 use Rattle.pi_machine.specs.Ends.{has}
 use Rattle.pi_machine.proofs.Truths.{both, either, neither, not_false, or_true, same_of, same_self, some_same}
 use Rattle.pi_attempt.specs.Watch.{Why, NeedsInit, EarlierImage, OtherStatics, NativeCall, Steps, Heap, Frames, Uncaught, Watched, Committed, Stopped, watch}
-use Rattle.pi_attempt.specs.Fold.{Line, Answer, Verdict, Held, Lazy, Progress, begins, answered, may_begin, first_needed, settle_lazy, settle_by, settle, is_done, first_attempt, select, select_all, over_lines, all_selected}
+use Rattle.pi_attempt.specs.Fold.{Line, Answer, Verdict, Held, Lazy, Progress, begins, with_verdict, may_begin, first_needed, settle_lazy, settle_by, settle, is_done, first_attempt, select, select_all, over_lines, all_selected}
 use Rattle.pi_attempt.specs.Laws.{answers_on, EachAnsweredOnce}
 
 abbrev pub mark : ℕ → ℕ → ℕ
@@ -54,11 +54,11 @@ pub record Settled (sel : List ℕ) (before after : Progress) : Type 0 where
 grown_on : (a b c : Progress) → Grown a b → Grown b c → Grown a c
 grown_on a b c x y = record { more = λ d e. y.more d (x.more d e) }
 
-answered_good : (sel waiting : List ℕ) (c : ℕ) (v : Verdict) (w : Progress) → Good sel (c ∷ waiting) w → Good sel waiting (answered c v w)
+answered_good : (sel waiting : List ℕ) (c : ℕ) (v : Verdict) (w : Progress) → Good sel (c ∷ waiting) w → Good sel waiting (with_verdict c v w)
 answered_good sel waiting c v w g = record {
   balance = λ d.
       let a : number_of w.begun d ≡ answers_on w d + (mark c d + number_of waiting d) = g.balance d in
-      let b : answers_on (answered c v w) d ≡ answers_on w d + (0 + mark c d) = sum_by-append (λ (x : Answer). cond (x.class == d) 1 0) w.answers (record { class = c; verdict = v } ∷ []) in
+      let b : answers_on (with_verdict c v w) d ≡ answers_on w d + (0 + mark c d) = sum_by-append (λ (x : Answer). cond (x.class == d) 1 0) w.answers (record { class = c; verdict = v } ∷ []) in
       omega (arith, a, b);
   once = g.once;
   within = g.within;
@@ -112,7 +112,7 @@ module _ (p : Program) (sel : List ℕ) (file : ℕ) (line : Line) (covered : (c
   settle_lazy_good : (go : List ℕ → Progress → Option Progress) → Settles go → (c : ℕ) (waiting : List ℕ) (w after : Progress) (why : Why) (d : Option ℕ)
       → first_needed line.selected w why ≡ d → Good sel (c ∷ waiting) w → settle_lazy go c waiting w why d ≡ Some after → Settled sel w after
   settle_lazy_good go h c waiting w after why None is g e =
-      through w (answered c (Lazy why) w) after (record { more = λ d x. x }) (h waiting (answered c (Lazy why) w) after (answered_good sel waiting c (Lazy why) w g) e)
+      through w (with_verdict c (Lazy why) w) after (record { more = λ d x. x }) (h waiting (with_verdict c (Lazy why) w) after (answered_good sel waiting c (Lazy why) w g) e)
   settle_lazy_good go h c waiting w after why (Some d) is g e =
       let m : (has line.selected d ≡ true) × (not (has w.begun d) ≡ true) = both _ _ (needed_may line.selected w why d is) in
       let b : Good sel (d ∷ c ∷ waiting) (begins d w) = begins_good sel (c ∷ waiting) d w (covered d m.0) (not_false _ m.1) g in
@@ -123,8 +123,8 @@ module _ (p : Program) (sel : List ℕ) (file : ℕ) (line : Line) (covered : (c
   settle_by_good go h c waiting w after None g e = cc
   settle_by_good go h c waiting w after (Some (Committed s n)) g e =
       let v : Progress = record w { state = s } in
-      let k : Good sel waiting (answered c (Held n) v) = answered_good sel waiting c (Held n) v (record { balance = g.balance; once = g.once; within = g.within }) in
-      through w (answered c (Held n) v) after (record { more = λ d x. x }) (h waiting (answered c (Held n) v) after k e)
+      let k : Good sel waiting (with_verdict c (Held n) v) = answered_good sel waiting c (Held n) v (record { balance = g.balance; once = g.once; within = g.within }) in
+      through w (with_verdict c (Held n) v) after (record { more = λ d x. x }) (h waiting (with_verdict c (Held n) v) after k e)
   settle_by_good go h c waiting w after (Some (Stopped why)) g e =
       settle_lazy_good go h c waiting w after why (first_needed line.selected w why) refl g e
 
@@ -153,9 +153,9 @@ module _ (p : Program) (sel : List ℕ) (file : ℕ) (line : Line) (covered : (c
       → first_attempt p file line c w done ≡ Some after → Selected c w after
   attempt_good c w after true g fresh s e =
       let b : Good sel (c ∷ []) (begins c w) = begins_good sel [] c w s fresh g in
-      let k : Settled sel (begins c w) (answered c (Held 0) (begins c w)) =
+      let k : Settled sel (begins c w) (with_verdict c (Held 0) (begins c w)) =
       record { good = answered_good sel [] c (Held 0) (begins c w) b; grown = record { more = λ d x. x } } in
-      subst (Selected c w) (some_same (answered c (Held 0) (begins c w)) after e) (begun_now c w (answered c (Held 0) (begins c w)) g fresh s k)
+      subst (Selected c w) (some_same (with_verdict c (Held 0) (begins c w)) after e) (begun_now c w (with_verdict c (Held 0) (begins c w)) g fresh s k)
   attempt_good c w after false g fresh s e =
       begun_now c w after g fresh s (settle_good (2 * length line.selected) (c ∷ []) (begins c w) after (begins_good sel [] c w s fresh g) e)
 

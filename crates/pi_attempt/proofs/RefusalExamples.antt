@@ -1,12 +1,13 @@
 -- Worked refusals: the reason of a step and its first refused act, and deeds of which no step has both.
-use Rattle.std.proofs.Common.{◌≡◌, Some, None, List, [], ◌∷◌, false, true, refl}
+use Rattle.std.proofs.Common.{Option, Bool, Some, None, List, [], ◌∷◌, false, true, refl}
 use Rattle.pi_model.specs.Known.{descriptor_of}
 use Rattle.pi_model.specs.Values.{Word}
 use Rattle.pi_machine.specs.State.{State}
 use Rattle.pi_machine.specs.Deeds.{Deed, SetStatic, Jump}
 use Rattle.pi_machine.specs.Acts.{acts}
 use Rattle.pi_machine.specs.Start.{first_state}
-use Rattle.pi_attempt.specs.Watch.{EarlierImage, OtherStatics, Steps, reason}
+use Rattle.pi_machine.proofs.Examples.{Same}
+use Rattle.pi_attempt.specs.Watch.{Why, EarlierImage, OtherStatics, Steps, reason}
 use Rattle.pi_attempt.specs.Laws.{refusal, first_refusal}
 use Rattle.pi_attempt.proofs.Images.{a_and_b}
 
@@ -18,32 +19,22 @@ before = first_state a_and_b
 abbrev writes_b : List Deed
 writes_b = SetStatic 2 (Word 1) ∷ Jump 2 ∷ []
 
-reason_of_write : reason a_and_b 31 2 false before writes_b ≡ Some (OtherStatics 30)
-unfolding descriptor_of
-reason_of_write = refl
-
-first_refused : first_refusal (refusal 31 2 false) (acts a_and_b before writes_b) ≡ Some (OtherStatics 30)
-unfolding descriptor_of
-first_refused = refl
-
--- where nothing else is refused it is the turn, once the budget is spent
-turn_refused : first_refusal (refusal 31 2 true) (acts a_and_b before (Jump 2 ∷ [])) ≡ Some Steps
-unfolding descriptor_of
-turn_refused = refl
-
-turn_allowed : first_refusal (refusal 31 2 false) (acts a_and_b before (Jump 2 ∷ [])) ≡ None
-unfolding descriptor_of
-turn_allowed = refl
-
 -- A step that wrote statics of B and then of A would have another reason than its first refused act. There is none, since a
 -- step writes statics of one class.
 abbrev writes_both : List Deed
 writes_both = SetStatic 2 (Word 1) ∷ SetStatic 1 (Word 1) ∷ Jump 2 ∷ []
 
-reason_of_both : reason a_and_b 31 2 false before writes_both ≡ Some (EarlierImage 60)
-unfolding descriptor_of
-reason_of_both = refl
+abbrev first_refused : Bool → List Deed → Option Why
+first_refused spent deeds = first_refusal (refusal 31 2 spent) (acts a_and_b before deeds)
 
-first_of_both : first_refusal (refusal 31 2 false) (acts a_and_b before writes_both) ≡ Some (OtherStatics 30)
+reasons_and_refusals : Same (
+    (reason a_and_b 31 2 false before writes_b, Some (OtherStatics 30))
+    ∷ (first_refused false writes_b, Some (OtherStatics 30))
+    -- where nothing else is refused it is the turn, once the budget is spent
+    ∷ (first_refused true (Jump 2 ∷ []), Some Steps)
+    ∷ (first_refused false (Jump 2 ∷ []), None)
+    ∷ (reason a_and_b 31 2 false before writes_both, Some (EarlierImage 60))
+    ∷ (first_refused false writes_both, Some (OtherStatics 30))
+    ∷ [])
 unfolding descriptor_of
-first_of_both = refl
+reasons_and_refusals = refl

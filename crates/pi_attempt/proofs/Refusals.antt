@@ -15,7 +15,7 @@ use Rattle.pi_machine.specs.Acts.{Act, EnterClass, WriteStatic, WriteObject, Rea
 use Rattle.pi_machine.proofs.FieldNumbers.{member_class}
 use Rattle.pi_machine.proofs.StepForms.{writes_have_one_target, static_reads_have_one_class}
 use Rattle.pi_machine.proofs.Truths.{some_same}
-use Rattle.pi_attempt.specs.Watch.{Why, NeedsInit, EarlierImage, OtherStatics, NativeCall, Steps, if_other, earlier_class, is_earlier, earlier_write, other_write, other_read, when}
+use Rattle.pi_attempt.specs.Watch.{Why, NeedsInit, EarlierImage, OtherStatics, NativeCall, Steps, if_other, earlier_class, is_earlier, earlier_write, other_write, other_read, reason_if}
 use Rattle.pi_attempt.specs.Laws.{refusal, first_refusal, reason_beyond, ReasonIsFirstRefusal}
 
 -- where every deed that answers gives the same answer, the first answer of what follows is what follows of the first
@@ -217,12 +217,12 @@ module _ (p : Program) (c file : ℕ) (s : State) where
 -- from the reads on the reasons are the refusals of the acts
 module _ (c file : ℕ) (spent : Bool) (b : Option Why) where
   abbrev from_turn : Option Why
-  from_turn = or_else (when spent Steps) b
+  from_turn = or_else (reason_if spent Steps) b
 
   abbrev refused : List (Option Act) → Option Why
   refused os = first_refusal (refusal c file spent) (those_of os)
 
-  turn_refused : (x : Bool) → or_else (when x Steps) b ≡ or_else (or_else (when x Steps) None) b
+  turn_refused : (x : Bool) → or_else (reason_if x Steps) b ≡ or_else (or_else (reason_if x Steps) None) b
   turn_refused true = refl
   turn_refused false = refl
 
@@ -242,14 +242,14 @@ module _ (c file : ℕ) (spent : Bool) (b : Option Why) where
 
   by_static : (earlier : Bool) (o r : Option ℕ) (ty : ℕ) (x y : Option Why) → or_else (option_map OtherStatics r) x ≡ or_else y b
       → or_else (option_map EarlierImage (if earlier then Some ty else None)) (or_else (option_map OtherStatics (or_else o r)) x)
-      ≡ or_else (or_else (or_else (when earlier (EarlierImage ty)) (option_map OtherStatics o)) y) b
+      ≡ or_else (or_else (or_else (reason_if earlier (EarlierImage ty)) (option_map OtherStatics o)) y) b
   by_static true o r ty x y h = refl
   by_static false None r ty x y h = h
   by_static false (Some k) r ty x y h = refl
 
   by_object : (earlier : Bool) (r : Option ℕ) (ty : ℕ) (x y : Option Why) → or_else (option_map OtherStatics r) x ≡ or_else y b
       → or_else (option_map EarlierImage (if earlier then Some ty else None)) (or_else (option_map OtherStatics (or_else None r)) x)
-      ≡ or_else (or_else (when earlier (EarlierImage ty)) y) b
+      ≡ or_else (or_else (reason_if earlier (EarlierImage ty)) y) b
   by_object true r ty x y h = refl
   by_object false r ty x y h = h
 

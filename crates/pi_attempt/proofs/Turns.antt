@@ -5,7 +5,7 @@ use Rattle.pi_model.specs.Program.{Program}
 use Rattle.pi_machine.specs.Ends.{has}
 use Rattle.pi_machine.proofs.Truths.{both, not_false, or_true, same_of, same_self, some_same, turned}
 use Rattle.pi_attempt.specs.Watch.{Why, Watched, Committed, Stopped, watch}
-use Rattle.pi_attempt.specs.Fold.{Line, Held, Lazy, Progress, Waits, begins, answered, first_needed, settle_lazy, settle_by, settle, turns_after, is_done, first_attempt, select, select_all, over_lines, no_progress, preinitialise}
+use Rattle.pi_attempt.specs.Fold.{Line, Held, Lazy, Progress, Waits, begins, with_verdict, first_needed, settle_lazy, settle_by, settle, turns_after, is_done, first_attempt, select, select_all, over_lines, no_progress, preinitialise}
 use Rattle.pi_attempt.specs.Laws.{ComesTo, IsStuck, EndsUnlessStuck}
 use Rattle.pi_attempt.proofs.Once.{needed_may}
 
@@ -126,8 +126,8 @@ module _ (p : Program) (file : ℕ) (line : Line) where
       → first_needed line.selected w why ≡ d → 2 * waits line.selected w.begun + (length waiting + 1) ≤ turns + 1
       → settle_lazy (settle p file line turns) c waiting w why d ≡ None → StuckFrom p file line (c ∷ waiting) w
   lazy_ends turns h c waiting w why None stops s is m e =
-      one_more c waiting w waiting (answered c (Lazy why) w) (λ n. rw (stops, is) refl)
-      (h waiting (answered c (Lazy why) w) (selected_behind c waiting s) (omega (arith, m)) e)
+      one_more c waiting w waiting (with_verdict c (Lazy why) w) (λ n. rw (stops, is) refl)
+      (h waiting (with_verdict c (Lazy why) w) (selected_behind c waiting s) (omega (arith, m)) e)
   lazy_ends turns h c waiting w why (Some d) stops s is m e =
       let k : (has line.selected d ≡ true) × (not (has w.begun d) ≡ true) = both _ _ (needed_may line.selected w why d is) in
       let f : waits line.selected (d ∷ w.begun) + 1 ≤ waits line.selected w.begun = fewer line.selected w.begun d (not_false _ k.1) k.0 in
@@ -141,8 +141,8 @@ module _ (p : Program) (file : ℕ) (line : Line) where
   turn_ends turns h c waiting w None is s own m e =
       record { turns = 0; class = c; others = waiting; now = w; is_next = refl; selected = own; stuck = is }
   turn_ends turns h c waiting w (Some (Committed after n)) is s own m e =
-      one_more c waiting w waiting (answered c (Held n) (record w { state = after })) (λ k. rw is refl)
-      (h waiting (answered c (Held n) (record w { state = after })) (selected_behind c waiting s) (omega (arith, m)) e)
+      one_more c waiting w waiting (with_verdict c (Held n) (record w { state = after })) (λ k. rw is refl)
+      (h waiting (with_verdict c (Held n) (record w { state = after })) (selected_behind c waiting s) (omega (arith, m)) e)
   turn_ends turns h c waiting w (Some (Stopped why)) is s own m e = lazy_ends turns h c waiting w why (first_needed line.selected w why) is s refl m e
 
   settle_ends : (turns : ℕ) → EndsIn turns
@@ -227,13 +227,13 @@ module _ (p : Program) (file : ℕ) (line : Line) where
 
   never_lazy : (n turns : ℕ) (end : Waits) → NeverSettles n turns end → (c : ℕ) (waiting : List ℕ) (w : Progress) (why : Why) (d : Option ℕ)
       → settle_lazy (turns_after p file line turns) c waiting w why d ≡ Some end → settle_lazy (settle p file line n) c waiting w why d ≡ None
-  never_lazy n turns end h c waiting w why None e = h waiting (answered c (Lazy why) w) e
+  never_lazy n turns end h c waiting w why None e = h waiting (with_verdict c (Lazy why) w) e
   never_lazy n turns end h c waiting w why (Some d) e = h (d ∷ c ∷ waiting) (begins d w) e
 
   never_by : (n turns : ℕ) (end : Waits) → NeverSettles n turns end → (c : ℕ) (waiting : List ℕ) (w : Progress) (o : Option Watched)
       → settle_by (turns_after p file line turns) line.selected c waiting w o ≡ Some end → settle_by (settle p file line n) line.selected c waiting w o ≡ None
   never_by n turns end h c waiting w None e = refl
-  never_by n turns end h c waiting w (Some (Committed after k)) e = h waiting (answered c (Held k) (record w { state = after })) e
+  never_by n turns end h c waiting w (Some (Committed after k)) e = h waiting (with_verdict c (Held k) (record w { state = after })) e
   never_by n turns end h c waiting w (Some (Stopped why)) e = never_lazy n turns end h c waiting w why (first_needed line.selected w why) e
 
   never_settles : (class : ℕ) (others : List ℕ) (now : Progress) → watch p class file line.budget now.state ≡ None

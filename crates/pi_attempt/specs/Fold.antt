@@ -35,8 +35,8 @@ abbrev pub begins : ℕ → Progress → Progress
 begins c w = record w { begun = c ∷ w.begun }
 
 -- a class is answered
-abbrev pub answered : ℕ → Verdict → Progress → Progress
-answered c verdict w = record w { answers = w.answers ++ record { class = c; verdict = verdict } ∷ [] }
+abbrev pub with_verdict : ℕ → Verdict → Progress → Progress
+with_verdict c verdict w = record w { answers = w.answers ++ record { class = c; verdict = verdict } ∷ [] }
 
 -- the class is selected, and its attempt has not begun
 abbrev pub may_begin : List ℕ → Progress → ℕ → Bool
@@ -50,13 +50,13 @@ first_needed selected w _ = None
 -- What follows an attempt of the class at the front of those that wait. Done: the new state is kept. Another class that
 -- may begin is needed: that one is attempted before it. Another end: the old state is kept.
 abbrev pub settle_lazy : {A : Type 0} → (List ℕ → Progress → Option A) → ℕ → List ℕ → Progress → Why → Option ℕ → Option A
-settle_lazy go c waiting w why None = go waiting (answered c (Lazy why) w)
+settle_lazy go c waiting w why None = go waiting (with_verdict c (Lazy why) w)
 settle_lazy go c waiting w why (Some d) = go (d ∷ c ∷ waiting) (begins d w)
 
 -- the turn of the class at the front, by how its attempt ended
 abbrev pub settle_by : {A : Type 0} → (List ℕ → Progress → Option A) → List ℕ → ℕ → List ℕ → Progress → Option Watched → Option A
 settle_by go selected c waiting w None = None
-settle_by go selected c waiting w (Some (Committed after steps)) = go waiting (answered c (Held steps) (record w { state = after }))
+settle_by go selected c waiting w (Some (Committed after steps)) = go waiting (with_verdict c (Held steps) (record w { state = after }))
 settle_by go selected c waiting w (Some (Stopped why)) = settle_lazy go c waiting w why (first_needed selected w why)
 
 -- Attempts until no class waits. Each turn answers the class at the front, or begins one that was selected and had not
@@ -87,7 +87,7 @@ is_done None = false
 
 -- a class that is done already is answered with 0 steps; another is attempted
 abbrev pub first_attempt : Program → ℕ → Line → ℕ → Progress → Bool → Option Progress
-first_attempt p file line c w true = Some (answered c (Held 0) (begins c w))
+first_attempt p file line c w true = Some (with_verdict c (Held 0) (begins c w))
 first_attempt p file line c w false = settle p file line (2 * length line.selected) (c ∷ []) (begins c w)
 
 -- one selected class: nothing is left to do where its attempt has begun

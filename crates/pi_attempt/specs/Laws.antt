@@ -7,7 +7,7 @@ use Rattle.pi_machine.specs.Deeds.{Deed}
 use Rattle.pi_machine.specs.Acts.{Act, EnterClass, WriteStatic, WriteObject, ReadStatic, CallImpure, Turn, acts}
 use Rattle.pi_machine.specs.Step.{deeds_of}
 use Rattle.pi_machine.specs.Ends.{has}
-use Rattle.pi_attempt.specs.Watch.{Why, NeedsInit, EarlierImage, OtherStatics, NativeCall, Steps, Heap, Frames, Uncaught, if_other, when, too_many_bytes, too_many_words, uncaught_type, first_why, reason, watch}
+use Rattle.pi_attempt.specs.Watch.{Why, NeedsInit, EarlierImage, OtherStatics, NativeCall, Steps, Heap, Frames, Uncaught, if_other, reason_if, too_many_bytes, too_many_words, uncaught_type, first_why, reason, watch}
 use Rattle.pi_attempt.specs.Fold.{Line, Answer, Progress, begins, turns_after, is_done, select_all, over_lines, no_progress, preinitialise, all_selected}
 
 -- how many answers are about a class
@@ -56,7 +56,7 @@ EndsUnlessStuck = (p : Program) (lines : List Line) → (preinitialise p lines �
 -- a type of an earlier file, or of a file's image
 abbrev pub if_earlier : ℕ → Option ℕ → ℕ → Option Why
 if_earlier file None ty = None
-if_earlier file (Some other) ty = when (nat_lt other file) (EarlierImage ty)
+if_earlier file (Some other) ty = reason_if (nat_lt other file) (EarlierImage ty)
 
 -- a class other than that of the attempt
 abbrev pub if_other_class : ℕ → ℕ → Option Why
@@ -70,7 +70,7 @@ refusal c file spent (WriteStatic d ty other) = or_else (if_earlier file (Some o
 refusal c file spent (WriteObject other ty) = if_earlier file other ty
 refusal c file spent (ReadStatic d) = if_other_class c d
 refusal c file spent (CallImpure m) = Some (NativeCall m)
-refusal c file spent Turn = when spent Steps
+refusal c file spent Turn = reason_if spent Steps
 
 -- the first refusal of some acts
 abbrev pub first_refusal : (Act → Option Why) → List Act → Option Why
@@ -80,8 +80,8 @@ first_refusal refuses (a ∷ others) = or_else (refuses a) (first_refusal refuse
 -- the reasons that are no act: what the step takes of bytes and words, and a throwable that reaches the record
 abbrev pub reason_beyond : Program → ℕ → ℕ → State → List Deed → Option Why
 reason_beyond p c file s deeds = first_why (
-    when (too_many_bytes p c file s deeds) Heap
-    ∷ when (too_many_words s deeds) Frames
+    reason_if (too_many_bytes p c file s deeds) Heap
+    ∷ reason_if (too_many_words s deeds) Frames
     ∷ option_map Uncaught (uncaught_type p c s deeds)
     ∷ [])
 

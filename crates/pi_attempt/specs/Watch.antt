@@ -86,9 +86,9 @@ abbrev pub reaches_record : ℕ → List Deed → Bool
 reaches_record c deeds = list_any (leaves_record c) deeds
 
 -- a reason that holds
-abbrev pub when : Bool → Why → Option Why
-when true why = Some why
-when false why = None
+abbrev pub reason_if : Bool → Why → Option Why
+reason_if true why = Some why
+reason_if false why = None
 
 -- the image would have too many bytes: those that it has, and those that the step adds; a throwable that reaches the record
 -- takes none
@@ -116,9 +116,9 @@ reason p c file spent s deeds = first_why (
     ∷ option_map EarlierImage (first_of (earlier_write p file s) deeds)
     ∷ option_map OtherStatics (or_else (first_of (other_write p c) deeds) (first_of (other_read p c) deeds))
     ∷ option_map NativeCall (first_of (impure_call p) deeds)
-    ∷ when spent Steps
-    ∷ when (too_many_bytes p c file s deeds) Heap
-    ∷ when (too_many_words s deeds) Frames
+    ∷ reason_if spent Steps
+    ∷ reason_if (too_many_bytes p c file s deeds) Heap
+    ∷ reason_if (too_many_words s deeds) Frames
     ∷ option_map Uncaught (uncaught_type p c s deeds)
     ∷ [])
 
@@ -128,14 +128,14 @@ pub data Watched : Type 0 where
   Stopped : (why : Why) → Watched
 
 -- one more step, where no reason holds; a step that the machine cannot make is stuck
-abbrev pub judged : (State → Option Watched) → State → List Deed → Option Why → Option Watched
-judged go s deeds None = go (do_all deeds s)
-judged go s deeds (Some why) = Some (Stopped why)
+abbrev pub judgement : (State → Option Watched) → State → List Deed → Option Why → Option Watched
+judgement go s deeds None = go (do_all deeds s)
+judgement go s deeds (Some why) = Some (Stopped why)
 
 -- the step is made, or the attempt ends; none where the machine is stuck
 abbrev pub by_deeds : Program → ℕ → ℕ → Bool → (State → Option Watched) → State → Deeds → Option Watched
 by_deeds p c file spent go s None = None
-by_deeds p c file spent go s (Some deeds) = judged go s deeds (reason p c file spent s deeds)
+by_deeds p c file spent go s (Some deeds) = judgement go s deeds (reason p c file spent s deeds)
 
 -- the attempt is over where the stack is empty; else its next step is looked at
 abbrev pub turn : Program → ℕ → ℕ → Bool → (State → Option Watched) → ℕ → State → List Entry → Option Watched
@@ -148,8 +148,8 @@ watch_by p c file zero made s = turn p c file true (λ after. None) made s s.sta
 watch_by p c file (suc left) made s = turn p c file false (watch_by p c file left (made + 1)) made s s.stack
 
 -- what the attempt makes and first touches is for the image of the file
-abbrev pub entered : ℕ → ℕ → State → State
-entered c file s = do_all (enters c) (record s { file = Some file })
+abbrev pub entry_state : ℕ → ℕ → State → State
+entry_state c file s = do_all (enters c) (record s { file = Some file })
 
 -- outside of an attempt nothing is for an image
 abbrev pub as_before : State → Watched → Watched
@@ -159,4 +159,4 @@ as_before s (Stopped why) = Stopped why
 -- The attempt of a class of a file from a state with an empty stack, within a budget of steps, of which entering is the
 -- first. None where the machine is stuck.
 abbrev pub watch : Program → ℕ → ℕ → ℕ → State → Option Watched
-watch p c file budget s = option_map (as_before s) (watch_by p c file (budget - 1) 1 (entered c file s))
+watch p c file budget s = option_map (as_before s) (watch_by p c file (budget - 1) 1 (entry_state c file s))

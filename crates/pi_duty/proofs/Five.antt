@@ -18,7 +18,7 @@ use Rattle.pi_machine.specs.Ends.{Returned, StepLimit}
 use Rattle.pi_duty.specs.Small.{is_small}
 use Rattle.pi_duty.specs.Words.{LazyWords, same_word}
 use Rattle.pi_base.specs.Views.{Contents}
-use Rattle.pi_duty.specs.Duty.{Owed, Owes, LengthOwes, FileOwes, refused}
+use Rattle.pi_duty.specs.Duty.{Owed, Owes, LengthOwes, FileOwes, refusal}
 
 -- what the file says behind the first file
 five : Program
@@ -84,11 +84,11 @@ stops_at_ten kept = by_bytes (lazy 10) limited kept runs_ten
 nothing : Contents
 nothing name = Some []
 
-refuses_nothing : Owes (words (codes "10")) nothing (refused Dex (codes "dex five.dex: rule 1 at 0\n"))
+refuses_nothing : Owes (words (codes "10")) nothing (refusal Dex (codes "dex five.dex: rule 1 at 0\n"))
 unfolding words nothing broken_tables_rule digits
 refuses_nothing = refl
 
 -- and it owes nothing else
-owes_no_other : ¬ Owes (words (codes "10")) nothing (refused Missing (codes "missing five.dex\n"))
+owes_no_other : ¬ Owes (words (codes "10")) nothing (refusal Missing (codes "missing five.dex\n"))
 unfolding words nothing broken_tables_rule digits
 owes_no_other e = let x = ap (λ (o : Owed). o.lines) e in cc

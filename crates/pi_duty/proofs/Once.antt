@@ -11,12 +11,12 @@ use Rattle.pi_duty.specs.Small.{is_small}
 use Rattle.pi_base.specs.Views.{Contents}
 use Rattle.pi_duty.specs.Words.{LazyWords}
 use Rattle.pi_duty.specs.Command.{Command, Lazy, command_of}
-use Rattle.pi_duty.specs.Duty.{Owed, RunOwes, ProgramOwes, FileOwes, LengthOwes, LazyOwes, CommandOwes, WordsOwe, OwesOnce, ended, lazy_setting, most_bytes}
+use Rattle.pi_duty.specs.Duty.{Owed, RunOwes, ProgramOwes, FileOwes, LengthOwes, LazyOwes, CommandOwes, WordsOwe, OwesOnce, owed_of_run, lazy_setting, most_bytes}
 
 run_once : (p : Program) (steps : ℕ) (main : Option ℕ) (a b : Owed) → RunOwes p steps main a → RunOwes p steps main b → a ≡ b
 run_once p steps None a b x y = x ∙ sym y
 run_once p steps (Some main) a b x y =
-    x.1.1 ∙ (ap (ended p) (run_end_unique p (lazy_setting steps) main [] x.0 y.0 x.1.0 y.1.0) ∙ sym y.1.1)
+    x.1.1 ∙ (ap (owed_of_run p) (run_end_unique p (lazy_setting steps) main [] x.0 y.0 x.1.0 y.1.0) ∙ sym y.1.1)
 
 program_once : (small : Bool) (l : LazyWords) (p : Program) (a b : Owed) → ProgramOwes small l p a → ProgramOwes small l p b → a ≡ b
 program_once false l p a b x y = x ∙ sym y

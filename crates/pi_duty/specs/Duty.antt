@@ -27,8 +27,8 @@ pub record Owed : Type 0 where
   pub writes : List Write
 
 -- a refusal: a line and nothing else
-abbrev pub refused : Status → List ℕ → Owed
-refused status line = record { status = status; output = []; lines = line; writes = [] }
+abbrev pub refusal : Status → List ℕ → Owed
+refusal status line = record { status = status; output = []; lines = line; writes = [] }
 
 -- the longest file that is read
 abbrev pub most_bytes : ℕ
@@ -54,8 +54,8 @@ end_lines p ends.HeapLimit = heap_limit_line
 end_lines p ends.FrameLimit = frame_limit_line
 
 -- what a run owes that ended so
-abbrev pub ended : Program → Finish → Owed
-ended p f = record {
+abbrev pub owed_of_run : Program → Finish → Owed
+owed_of_run p f = record {
   status = end_status f.end;
   output = f.output;
   lines = end_lines p f.end ++ made_line f.steps;
@@ -64,27 +64,27 @@ ended p f = record {
 
 -- the run of a program for a main method owes what it ends with
 abbrev pub RunOwes : Program → ℕ → Option ℕ → Owed → Type 0
-RunOwes p steps None o = o ≡ refused NotBuilt not_built_line
-RunOwes p steps (Some main) o = (f : Finish) × (EndsWith p (lazy_setting steps) main [] f × (o ≡ ended p f))
+RunOwes p steps None o = o ≡ refusal NotBuilt not_built_line
+RunOwes p steps (Some main) o = (f : Finish) × (EndsWith p (lazy_setting steps) main [] f × (o ≡ owed_of_run p f))
 
 -- a program that is small for the main class is run, and another is not built
 abbrev pub ProgramOwes : Bool → LazyWords → Program → Owed → Type 0
-ProgramOwes false l p o = o ≡ refused NotBuilt not_built_line
+ProgramOwes false l p o = o ≡ refusal NotBuilt not_built_line
 ProgramOwes true l p o = RunOwes p l.steps (main_of p l.main) o
 
 -- a file that breaks a rule of the format is refused; another says a program behind the first file
 abbrev pub FileOwes : LazyWords → Option Broken → Program → Owed → Type 0
-FileOwes l (Some broken) p o = o ≡ refused Dex (dex_line l.file broken.rule broken.at)
+FileOwes l (Some broken) p o = o ≡ refusal Dex (dex_line l.file broken.rule broken.at)
 FileOwes l None p o = ProgramOwes (is_small l.main p) l p o
 
 -- a file that is longer than the limit is refused
 abbrev pub LengthOwes : Bool → LazyWords → List ℕ → Owed → Type 0
-LengthOwes true l file o = o ≡ refused TooLarge (too_large_line l.file)
+LengthOwes true l file o = o ≡ refusal TooLarge (too_large_line l.file)
 LengthOwes false l file o = FileOwes l (broken_rule file) (with_said core_program file) o
 
 -- a lazy run by what the store holds under the file's name
 abbrev pub LazyOwes : LazyWords → Option (List ℕ) → Owed → Type 0
-LazyOwes l None o = o ≡ refused Missing (missing_line l.file)
+LazyOwes l None o = o ≡ refusal Missing (missing_line l.file)
 LazyOwes l (Some file) o = LengthOwes (nat_lt most_bytes (length file)) l file o
 
 -- a command by what it is
@@ -93,7 +93,7 @@ CommandOwes (Lazy l) contents o = LazyOwes l (contents l.file) o
 
 -- words that are no command are refused
 abbrev pub WordsOwe : Option Command → Contents → Owed → Type 0
-WordsOwe None contents o = o ≡ refused Usage usage_line
+WordsOwe None contents o = o ≡ refusal Usage usage_line
 WordsOwe (Some command) contents o = CommandOwes command contents o
 
 -- what these words owe over a store of these contents

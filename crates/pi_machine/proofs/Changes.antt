@@ -99,27 +99,23 @@ shape_unseen = record {
     by_item i v (Made file o) = ap Some (item_shape i v o)
     by_item i v (Touched file n) = refl
 
+-- where no change of the object is seen at all
+unseen_by : {B : Type 0} (look : Option Thing → B) → ((change : Object → Object) (x : Thing) → look (Some (in_thing change x)) ≡ look (Some x)) → Unseen look
+unseen_by look same = record { field = λ i v. same (with_field i v); item = λ i v. same (with_item i v) }
+
 file_unseen : Unseen (option_map file_of)
-file_unseen = record {
-  field = by_any (λ i v. with_field i v);
-  item = by_any (λ i v. with_item i v);
-}
+file_unseen = unseen_by (option_map file_of) by_thing
   where
-    by_any : (change : ℕ → Value → Object → Object) (i : ℕ) (v : Value) (x : Thing)
-        → option_map file_of (Some (in_thing (change i v) x)) ≡ option_map file_of (Some x)
-    by_any change i v (Made file o) = refl
-    by_any change i v (Touched file n) = refl
+    by_thing : (change : Object → Object) (x : Thing) → option_map file_of (Some (in_thing change x)) ≡ option_map file_of (Some x)
+    by_thing change (Made file o) = refl
+    by_thing change (Touched file n) = refl
 
 literal_unseen : Unseen literal_in
-literal_unseen = record {
-  field = by_any (λ i v. with_field i v);
-  item = by_any (λ i v. with_item i v);
-}
+literal_unseen = unseen_by literal_in by_thing
   where
-    by_any : (change : ℕ → Value → Object → Object) (i : ℕ) (v : Value) (x : Thing)
-        → literal_in (Some (in_thing (change i v) x)) ≡ literal_in (Some x)
-    by_any change i v (Made file o) = refl
-    by_any change i v (Touched file n) = refl
+    by_thing : (change : Object → Object) (x : Thing) → literal_in (Some (in_thing change x)) ≡ literal_in (Some x)
+    by_thing change (Made file o) = refl
+    by_thing change (Touched file n) = refl
 
 -- a touch leaves what there was, and no list of things gets shorter
 touch_get : (file : Option ℕ) (m : ℕ) (things : List Thing) (n : ℕ) (b : Bool) → n < length things

@@ -1,7 +1,6 @@
 -- Calls through a running main. Four steps come before its first instruction; a call is one step, and so is a return.
 use Rattle.std.proofs.Common.{Some, None, ℕ, ◌+◌, List, [], ◌∷◌, ◌++◌, Option, refl}
 use Rattle.std.specs.Prelude.{codes}
-use Rattle.std.specs.Fmt.{digits}
 use Rattle.pi_model.specs.declared.numbers.NameNo.{NameNo}
 use Rattle.pi_model.specs.declared.describe.Catch.{Catch}
 use Rattle.pi_model.specs.declared.describe.Code.{Code}
@@ -15,69 +14,37 @@ use Rattle.pi_model.specs.declared.insn.Cond.TheVariants.{Eq, Gt}
 use Rattle.pi_model.specs.declared.insn.How.{How}
 use Rattle.pi_model.specs.declared.insn.How.TheVariants.{Virtual, Super, Direct, Static, Interface}
 use Rattle.pi_model.specs.declared.insn.Kind.TheVariants as kind
-use Rattle.pi_model.specs.Dispatch.{is_virtual}
-use Rattle.pi_model.specs.Known.{descriptor_of}
 use Rattle.pi_model.specs.Program.{Program}
-use Rattle.pi_machine.specs.Initialisation.{is_clinit}
-use Rattle.pi_machine.specs.Natives.{native_table}
-use Rattle.pi_machine.proofs.Sample.{no, object, string, class_class, int, long, void, ints, init, own, class, code, handler, method, instance_field, field_ref, method_ref, chain, main_method, print, print_long, PrintsIn, ThrowsIn}
+use Rattle.pi_machine.proofs.Examples.{Run, outcome, Outcomes, prints_in, throws_in}
+use Rattle.pi_machine.proofs.Sample.{no, object, string, class_class, int, long, void, ints, init, own, class, code, handler, method, instance_field, field_ref, method_ref, chain, main_method, print, print_long}
+use Rattle.pi_machine.proofs.Layouts.{a, b, c, i, j, x, y, z, f, a_array}
 
 -- The classes, by the numbers of their names: LB; below LA;, LC; below LB;, LD; and LE; below LA;. LB; implements LI;,
 -- an interface below LJ;. LX; is abstract and implements LI;, and LY; and LW; are below it.
-abbrev a : NameNo
-a = own 1
-
-abbrev b : NameNo
-b = own 2
-
-abbrev c : NameNo
-c = own 3
-
 abbrev d : NameNo
-d = own 4
+d = own 9
 
 abbrev e : NameNo
-e = own 5
-
-abbrev i : NameNo
-i = own 6
-
-abbrev j : NameNo
-j = own 7
-
-abbrev x : NameNo
-x = own 8
-
-abbrev y : NameNo
-y = own 9
+e = own 12
 
 abbrev w : NameNo
-w = own 10
-
-abbrev arrays_of_a : NameNo
-arrays_of_a = own 11
+w = own 13
 
 -- m and q are found by the receiver's type, s and u call m of the superclass
 abbrev m : NameNo
-m = own 12
+m = own 14
 
 abbrev p : NameNo
-p = own 13
+p = own 15
 
 abbrev q : NameNo
-q = own 14
+q = own 16
 
 abbrev s : NameNo
-s = own 15
+s = own 17
 
 abbrev u : NameNo
-u = own 16
-
-abbrev z : NameNo
-z = own 17
-
-abbrev f : NameNo
-f = own 18
+u = own 18
 
 abbrev clone : NameNo
 clone = no 51
@@ -118,8 +85,8 @@ seven_ints = int ∷ int ∷ int ∷ int ∷ int ∷ int ∷ int ∷ []
 
 abbrev catching : List Insn → List Catch → Program
 catching insns tries = chain (
-    codes "LT;" ∷ codes "LA;" ∷ codes "LB;" ∷ codes "LC;" ∷ codes "LD;" ∷ codes "LE;" ∷ codes "LI;" ∷ codes "LJ;" ∷ codes "LX;" ∷ codes "LY;" ∷ codes "LW;" ∷ codes "[LA;"
-    ∷ codes "m" ∷ codes "p" ∷ codes "q" ∷ codes "s" ∷ codes "u" ∷ codes "z" ∷ codes "f" ∷ []) (
+    codes "LT;" ∷ codes "LA;" ∷ codes "LB;" ∷ codes "LC;" ∷ codes "LI;" ∷ codes "LJ;" ∷ codes "LX;" ∷ codes "LY;" ∷ codes "f" ∷ codes "LD;" ∷ codes "z" ∷ codes "[LA;"
+    ∷ codes "LE;" ∷ codes "LW;" ∷ codes "m" ∷ codes "p" ∷ codes "q" ∷ codes "s" ∷ codes "u" ∷ []) (
     class 1 (own 0) 1 (Some object) [] [] (main_method insns tries
     ∷ method f (int ∷ int ∷ []) void 9 pair ∷ method f (int ∷ long ∷ int ∷ []) void 9 with_long ∷ method f seven_ints void 9 seven ∷ method f (int ∷ []) int 9 factorial ∷ [])
     ∷ class 1 a 1 (Some object) [] (instance_field f int ∷ [])
@@ -140,188 +107,122 @@ catching insns tries = chain (
 abbrev world : List Insn → Program
 world insns = catching insns []
 
-abbrev Shows : List Insn → List ℕ → ℕ → Type 0
-Shows insns output steps = PrintsIn (world insns) output steps
+abbrev shows : List Insn → List ℕ → ℕ → Run
+shows insns output steps = prints_in (world insns) output steps
 
 -- a method of a class without parameters is called with register 0, and its result is printed: three steps and its own
 abbrev calls : How → NameNo → NameNo → List Insn
 calls how class name = Invoke how (method_ref class name [] int) (0 ∷ []) ∷ MoveResult kind.Word 1 ∷ print 1 ∷ []
 
--- arguments arrive in the last registers in the order of the call, and the others begin as 0
-last_registers : Shows (Const 1 5 ∷ Const 2 6 ∷ Invoke Static (method_ref (own 0) f (int ∷ int ∷ []) void) (2 ∷ 1 ∷ []) ∷ print 1 ∷ ReturnVoid ∷ []) (codes "0\n6\n5\n5\n") 13
-unfolding descriptor_of native_table is_virtual is_clinit digits
-last_registers = (100, refl)
-
--- a long is two arguments
-long_argument : Shows (Const 0 5 ∷ ConstWide 1 5000000000 ∷ Const 3 6 ∷ Invoke Static (method_ref (own 0) f (int ∷ long ∷ int ∷ []) void) (0 ∷ 1 ∷ 2 ∷ 3 ∷ []) ∷ ReturnVoid ∷ [])
+-- static methods and their arguments
+static_calls : Outcomes (
+    -- arguments arrive in the last registers in the order of the call, and the others begin as 0
+    shows (Const 1 5 ∷ Const 2 6 ∷ Invoke Static (method_ref (own 0) f (int ∷ int ∷ []) void) (2 ∷ 1 ∷ []) ∷ print 1 ∷ ReturnVoid ∷ []) (codes "0\n6\n5\n5\n") 13
+    -- a long is two arguments
+    ∷ shows (Const 0 5 ∷ ConstWide 1 5000000000 ∷ Const 3 6 ∷ Invoke Static (method_ref (own 0) f (int ∷ long ∷ int ∷ []) void) (0 ∷ 1 ∷ 2 ∷ 3 ∷ []) ∷ ReturnVoid ∷ [])
     (codes "0\n5\n5000000000\n6\n") 14
-unfolding descriptor_of native_table is_virtual is_clinit digits
-long_argument = (100, refl)
-
--- many arguments in a row
-many_arguments : Shows (Const 1 1 ∷ Const 6 6 ∷ Const 7 7 ∷ Invoke Static (method_ref (own 0) f seven_ints void) (1 ∷ 2 ∷ 3 ∷ 4 ∷ 5 ∷ 6 ∷ 7 ∷ []) ∷ ReturnVoid ∷ [])
+    -- many arguments in a row
+    ∷ shows (Const 1 1 ∷ Const 6 6 ∷ Const 7 7 ∷ Invoke Static (method_ref (own 0) f seven_ints void) (1 ∷ 2 ∷ 3 ∷ 4 ∷ 5 ∷ 6 ∷ 7 ∷ []) ∷ ReturnVoid ∷ [])
     (codes "1\n6\n7\n") 13
-unfolding descriptor_of native_table is_virtual is_clinit digits
-many_arguments = (100, refl)
+    -- a method that calls itself: six steps for each of 3, 2 and 1, and three for 0
+    ∷ shows (Const 0 3 ∷ Invoke Static (method_ref (own 0) f (int ∷ []) int) (0 ∷ []) ∷ MoveResult kind.Word 0 ∷ print 0 ∷ ReturnVoid ∷ []) (codes "6\n") 30
+    -- a static method is found in the superclass, whose class alone is entered
+    ∷ shows (Invoke Static (method_ref b z [] int) [] ∷ MoveResult kind.Word 1 ∷ print 1 ∷ ReturnVoid ∷ []) (codes "9\n") 13
+    ∷ [])
+unfolding outcome
+static_calls = refl
 
--- a method that calls itself: six steps for each of 3, 2 and 1, and three for 0
-calls_itself : Shows (Const 0 3 ∷ Invoke Static (method_ref (own 0) f (int ∷ []) int) (0 ∷ []) ∷ MoveResult kind.Word 0 ∷ print 0 ∷ ReturnVoid ∷ []) (codes "6\n") 30
-unfolding descriptor_of native_table is_virtual is_clinit digits
-calls_itself = (100, refl)
-
--- a static method is found in the superclass, whose class alone is entered
-static_above : Shows (Invoke Static (method_ref b z [] int) [] ∷ MoveResult kind.Word 1 ∷ print 1 ∷ ReturnVoid ∷ []) (codes "9\n") 13
-unfolding descriptor_of native_table is_virtual is_clinit digits
-static_above = (100, refl)
-
--- the receiver's class decides: its own m, that of LB;, and for LC; the one it inherits
-overrides : Shows (NewInstance 0 a ∷ calls Virtual a m ++ NewInstance 0 b ∷ calls Virtual a m ++ NewInstance 0 c ∷ calls Virtual a m ++ ReturnVoid ∷ []) (codes "1\n2\n2\n") 32
-unfolding descriptor_of native_table is_virtual is_clinit digits
-overrides = (100, refl)
-
--- a private or a static method of that name overrides nothing
-private_passed : Shows (NewInstance 0 d ∷ calls Virtual a m ++ calls Direct d m ++ ReturnVoid ∷ []) (codes "1\n4\n") 22
-unfolding descriptor_of native_table is_virtual is_clinit digits
-private_passed = (100, refl)
-
--- nor does a static one
-static_passed : Shows (NewInstance 0 e ∷ calls Virtual a m ++ ReturnVoid ∷ []) (codes "1\n") 17
-unfolding descriptor_of native_table is_virtual is_clinit digits
-static_passed = (100, refl)
-
--- a method of the same name and another prototype is another method; the receiver comes before the long
-by_prototype : Shows (NewInstance 0 b ∷ ConstWide 1 5000000000 ∷ Invoke Virtual (method_ref b m (long ∷ []) long) (0 ∷ 1 ∷ 2 ∷ []) ∷ MoveResult kind.Wide 3 ∷ print_long 3 ∷ ReturnVoid ∷ [])
+-- methods by the receiver's class, by the code's class, and private ones
+methods_by_receiver : Outcomes (
+    -- the receiver's class decides: its own m, that of LB;, and for LC; the one it inherits
+    shows (NewInstance 0 a ∷ calls Virtual a m ++ NewInstance 0 b ∷ calls Virtual a m ++ NewInstance 0 c ∷ calls Virtual a m ++ ReturnVoid ∷ []) (codes "1\n2\n2\n") 32
+    -- a private or a static method of that name overrides nothing
+    ∷ shows (NewInstance 0 d ∷ calls Virtual a m ++ calls Direct d m ++ ReturnVoid ∷ []) (codes "1\n4\n") 22
+    -- nor does a static one
+    ∷ shows (NewInstance 0 e ∷ calls Virtual a m ++ ReturnVoid ∷ []) (codes "1\n") 17
+    -- a method of the same name and another prototype is another method; the receiver comes before the long
+    ∷ shows (NewInstance 0 b ∷ ConstWide 1 5000000000 ∷ Invoke Virtual (method_ref b m (long ∷ []) long) (0 ∷ 1 ∷ 2 ∷ []) ∷ MoveResult kind.Wide 3 ∷ print_long 3 ∷ ReturnVoid ∷ [])
     (codes "5000000000\n") 17
-unfolding descriptor_of native_table is_virtual is_clinit digits
-by_prototype = (100, refl)
+    -- invoke-super begins above the class of the code, whatever class the receiver or the reference is of: LB; calls the m
+    -- of LA;, and LC; that of LB;
+    ∷ shows (NewInstance 0 c ∷ calls Virtual b s ++ calls Virtual b u ++ calls Virtual c z ++ ReturnVoid ∷ []) (codes "1\n1\n2\n") 39
+    -- invoke-direct calls the method that was found: a private one, though the receiver's class has a public one
+    ∷ shows (NewInstance 0 b ∷ calls Direct a p ++ calls Virtual b p ++ ReturnVoid ∷ []) (codes "3\n30\n") 22
+    -- a constructor sets a field of the new instance
+    ∷ shows (NewInstance 0 a ∷ Const 1 5 ∷ Invoke Direct (method_ref a init (int ∷ []) void) (0 ∷ 1 ∷ []) ∷ Iget Plain 2 0 (field_ref a f int) ∷ print 2 ∷ ReturnVoid ∷ []) (codes "5\n") 15
+    ∷ [])
+unfolding outcome
+methods_by_receiver = refl
 
--- invoke-super begins above the class of the code, whatever class the receiver or the reference is of: LB; calls the m
--- of LA;, and LC; that of LB;
-super_of_code : Shows (NewInstance 0 c ∷ calls Virtual b s ++ calls Virtual b u ++ calls Virtual c z ++ ReturnVoid ∷ []) (codes "1\n1\n2\n") 39
-unfolding descriptor_of native_table is_virtual is_clinit digits
-super_of_code = (100, refl)
+-- methods of interfaces
+interface_calls : Outcomes (
+    -- an interface's method is that of the receiver's class, also one of a superinterface and one that a subclass inherits
+    shows (NewInstance 0 c ∷ calls Interface i m ++ calls Interface i q ++ calls Interface j q ++ ReturnVoid ∷ []) (codes "2\n6\n6\n") 30
+    -- a class below an abstract one that implements the interface
+    ∷ shows (NewInstance 0 w ∷ calls Interface i m ++ calls Virtual x m ++ ReturnVoid ∷ []) (codes "8\n8\n") 22
+    -- a receiver without the interface throws IncompatibleClassChangeError, though it has such a method
+    ∷ throws_in (world (NewInstance 0 a ∷ calls Interface i m)) 22 10
+    -- so do an array, a text and a class object
+    ∷ throws_in (world (Const 0 1 ∷ NewArray 0 0 a_array ∷ calls Interface i m)) 22 8
+    -- a text
+    ∷ throws_in (world (ConstString 0 string ∷ calls Interface j q)) 22 7
+    -- a class object, also one of a class with the interface
+    ∷ throws_in (world (ConstClass 0 b ∷ calls Interface i m)) 22 7
+    ∷ [])
+unfolding outcome
+interface_calls = refl
 
--- invoke-direct calls the method that was found: a private one, though the receiver's class has a public one
-direct_private : Shows (NewInstance 0 b ∷ calls Direct a p ++ calls Virtual b p ++ ReturnVoid ∷ []) (codes "3\n30\n") 22
-unfolding descriptor_of native_table is_virtual is_clinit digits
-direct_private = (100, refl)
-
--- a constructor sets a field of the new instance
-constructor : Shows (NewInstance 0 a ∷ Const 1 5 ∷ Invoke Direct (method_ref a init (int ∷ []) void) (0 ∷ 1 ∷ []) ∷ Iget Plain 2 0 (field_ref a f int) ∷ print 2 ∷ ReturnVoid ∷ []) (codes "5\n") 15
-unfolding descriptor_of native_table is_virtual is_clinit digits
-constructor = (100, refl)
-
--- an interface's method is that of the receiver's class, also one of a superinterface and one that a subclass inherits
-interface_methods : Shows (NewInstance 0 c ∷ calls Interface i m ++ calls Interface i q ++ calls Interface j q ++ ReturnVoid ∷ []) (codes "2\n6\n6\n") 30
-unfolding descriptor_of native_table is_virtual is_clinit digits
-interface_methods = (100, refl)
-
--- a class below an abstract one that implements the interface
-interface_of_abstract : Shows (NewInstance 0 w ∷ calls Interface i m ++ calls Virtual x m ++ ReturnVoid ∷ []) (codes "8\n8\n") 22
-unfolding descriptor_of native_table is_virtual is_clinit digits
-interface_of_abstract = (100, refl)
-
--- a receiver without the interface throws IncompatibleClassChangeError, though it has such a method
-without_interface : ThrowsIn (world (NewInstance 0 a ∷ calls Interface i m)) 22 10
-unfolding descriptor_of native_table is_virtual is_clinit
-without_interface = (100, refl)
-
--- so do an array, a text and a class object
-array_without_interface : ThrowsIn (world (Const 0 1 ∷ NewArray 0 0 arrays_of_a ∷ calls Interface i m)) 22 8
-unfolding descriptor_of native_table is_virtual is_clinit
-array_without_interface = (100, refl)
-
--- a text
-text_without_interface : ThrowsIn (world (ConstString 0 string ∷ calls Interface j q)) 22 7
-unfolding descriptor_of native_table is_virtual is_clinit
-text_without_interface = (100, refl)
-
--- a class object, also one of a class with the interface
-class_without_interface : ThrowsIn (world (ConstClass 0 b ∷ calls Interface i m)) 22 7
-unfolding descriptor_of native_table is_virtual is_clinit
-class_without_interface = (100, refl)
-
--- AbstractMethodError: the receiver's class has no such method
-none_found : ThrowsIn (world (NewInstance 0 b ∷ calls Interface i z)) 23 13
-unfolding descriptor_of native_table is_virtual is_clinit
-none_found = (100, refl)
-
--- and where the nearest one is abstract: of a class, by an interface, above the code's class
-abstract_found : ThrowsIn (world (NewInstance 0 y ∷ calls Virtual x m)) 23 13
-unfolding descriptor_of native_table is_virtual is_clinit
-abstract_found = (100, refl)
-
--- called by the interface
-abstract_by_interface : ThrowsIn (world (NewInstance 0 y ∷ calls Interface i m)) 23 13
-unfolding descriptor_of native_table is_virtual is_clinit
-abstract_by_interface = (100, refl)
-
--- the throwable leaves the frame of s and that of main
-abstract_above : ThrowsIn (world (NewInstance 0 y ∷ calls Virtual y s)) 23 15
-unfolding descriptor_of native_table is_virtual is_clinit
-abstract_above = (100, refl)
-
--- no method above the class of the code
-none_above : ThrowsIn (world (NewInstance 0 a ∷ calls Super a m)) 23 10
-unfolding descriptor_of native_table is_virtual is_clinit
-none_above = (100, refl)
+-- calls that find no method with code
+abstract_calls : Outcomes (
+    -- AbstractMethodError: the receiver's class has no such method
+    throws_in (world (NewInstance 0 b ∷ calls Interface i z)) 23 13
+    -- and where the nearest one is abstract: of a class, by an interface, above the code's class
+    ∷ throws_in (world (NewInstance 0 y ∷ calls Virtual x m)) 23 13
+    -- called by the interface
+    ∷ throws_in (world (NewInstance 0 y ∷ calls Interface i m)) 23 13
+    -- the throwable leaves the frame of s and that of main
+    ∷ throws_in (world (NewInstance 0 y ∷ calls Virtual y s)) 23 15
+    -- no method above the class of the code
+    ∷ throws_in (world (NewInstance 0 a ∷ calls Super a m)) 23 10
+    ∷ [])
+unfolding outcome
+abstract_calls = refl
 
 -- 1 is printed where the class of register 0, called for in that way, is that of a type, else 0; six steps or seven
 abbrev class_is : How → NameNo → NameNo → ℕ → List Insn
 class_is how class t at = Invoke how (method_ref class get_class [] class_class) (0 ∷ []) ∷ MoveResult kind.Ref 1 ∷ ConstClass 2 t ∷ If Eq 1 2 (at + 8) ∷ Const 3 0 ∷ Goto (at + 9) ∷ Const 3 1 ∷ print 3 ∷ []
 
--- where Object declares the method, an interface's call is one by the receiver's class: LA; has not the interface
-declared_by_object : Shows (NewInstance 0 a ∷ class_is Interface i a 1 ++ ReturnVoid ∷ []) (codes "1\n") 15
-unfolding descriptor_of native_table is_virtual is_clinit digits
-declared_by_object = (100, refl)
-
--- an override of it is called
-override_of_object : Shows (NewInstance 0 e ∷ Invoke Interface (method_ref i clone [] object) (0 ∷ []) ∷ MoveResult kind.Ref 1 ∷ print 1 ∷ ReturnVoid ∷ []) (codes "0\n") 17
-unfolding descriptor_of native_table is_virtual is_clinit digits
-override_of_object = (100, refl)
-
--- what a callee throws goes to the handler that covers its call, behind the step that leaves the callee's frame
-caught_at_call : PrintsIn (catching (NewInstance 0 y ∷ calls Virtual y s ++ ReturnVoid ∷ MoveException 1 ∷ InstanceOf 2 1 (no 22) ∷ print 2 ∷ ReturnVoid ∷ []) (handler 1 2 (Some (no 23)) 9 ∷ []))
+-- methods of Object, and of arrays
+methods_of_object : Outcomes (
+    -- where Object declares the method, an interface's call is one by the receiver's class: LA; has not the interface
+    shows (NewInstance 0 a ∷ class_is Interface i a 1 ++ ReturnVoid ∷ []) (codes "1\n") 15
+    -- an override of it is called
+    ∷ shows (NewInstance 0 e ∷ Invoke Interface (method_ref i clone [] object) (0 ∷ []) ∷ MoveResult kind.Ref 1 ∷ print 1 ∷ ReturnVoid ∷ []) (codes "0\n") 17
+    -- what a callee throws goes to the handler that covers its call, behind the step that leaves the callee's frame
+    ∷ prints_in (catching (NewInstance 0 y ∷ calls Virtual y s ++ ReturnVoid ∷ MoveException 1 ∷ InstanceOf 2 1 (no 22) ∷ print 2 ∷ ReturnVoid ∷ []) (handler 1 2 (Some (no 23)) 9 ∷ []))
     (codes "1\n") 19
-unfolding descriptor_of native_table is_virtual is_clinit digits
-caught_at_call = (100, refl)
+    -- methods of array types are those of Object
+    ∷ shows (Const 0 3 ∷ NewArray 1 0 ints ∷ Invoke Virtual (method_ref ints clone [] object) (1 ∷ []) ∷ MoveResult kind.Ref 2 ∷ ArrayLength 3 2 ∷ print 3 ∷ ReturnVoid ∷ []) (codes "3\n") 11
+    -- the class of an array is its type
+    ∷ shows (Const 0 3 ∷ NewArray 0 0 a_array ∷ class_is Virtual a_array a_array 2 ++ ReturnVoid ∷ []) (codes "1\n") 13
+    ∷ [])
+unfolding outcome
+methods_of_object = refl
 
--- methods of array types are those of Object
-array_clone : Shows (Const 0 3 ∷ NewArray 1 0 ints ∷ Invoke Virtual (method_ref ints clone [] object) (1 ∷ []) ∷ MoveResult kind.Ref 2 ∷ ArrayLength 3 2 ∷ print 3 ∷ ReturnVoid ∷ []) (codes "3\n") 11
-unfolding descriptor_of native_table is_virtual is_clinit digits
-array_clone = (100, refl)
-
--- the class of an array is its type
-array_class : Shows (Const 0 3 ∷ NewArray 0 0 arrays_of_a ∷ class_is Virtual arrays_of_a arrays_of_a 2 ++ ReturnVoid ∷ []) (codes "1\n") 13
-unfolding descriptor_of native_table is_virtual is_clinit digits
-array_class = (100, refl)
-
--- a null receiver throws NullPointerException in each way of a call, before the class or the method is looked at
-virtual_null : ThrowsIn (world (Const 0 0 ∷ calls Virtual a m)) 9 7
-unfolding descriptor_of native_table is_virtual is_clinit
-virtual_null = (100, refl)
-
--- a native
-native_null : ThrowsIn (world (Const 0 0 ∷ Invoke Virtual (method_ref string (no 53) [] int) (0 ∷ []) ∷ [])) 9 7
-unfolding descriptor_of native_table is_virtual is_clinit
-native_null = (100, refl)
-
--- invoke-super
-super_null : ThrowsIn (world (Const 0 0 ∷ calls Super a m)) 9 7
-unfolding descriptor_of native_table is_virtual is_clinit
-super_null = (100, refl)
-
--- invoke-direct
-direct_null : ThrowsIn (world (Const 0 0 ∷ calls Direct a p)) 9 7
-unfolding descriptor_of native_table is_virtual is_clinit
-direct_null = (100, refl)
-
--- invoke-interface, of a method that no class has
-interface_null : ThrowsIn (world (Const 0 0 ∷ calls Interface i z)) 9 7
-unfolding descriptor_of native_table is_virtual is_clinit
-interface_null = (100, refl)
-
--- an abstract method
-abstract_null : ThrowsIn (world (Const 0 0 ∷ calls Virtual x m)) 9 7
-unfolding descriptor_of native_table is_virtual is_clinit
-abstract_null = (100, refl)
+-- receivers that are null
+null_receivers : Outcomes (
+    -- a null receiver throws NullPointerException in each way of a call, before the class or the method is looked at
+    throws_in (world (Const 0 0 ∷ calls Virtual a m)) 9 7
+    -- a native
+    ∷ throws_in (world (Const 0 0 ∷ Invoke Virtual (method_ref string (no 53) [] int) (0 ∷ []) ∷ [])) 9 7
+    -- invoke-super
+    ∷ throws_in (world (Const 0 0 ∷ calls Super a m)) 9 7
+    -- invoke-direct
+    ∷ throws_in (world (Const 0 0 ∷ calls Direct a p)) 9 7
+    -- invoke-interface, of a method that no class has
+    ∷ throws_in (world (Const 0 0 ∷ calls Interface i z)) 9 7
+    -- an abstract method
+    ∷ throws_in (world (Const 0 0 ∷ calls Virtual x m)) 9 7
+    ∷ [])
+unfolding outcome
+null_receivers = refl

@@ -1,33 +1,15 @@
 -- Tests of types: check-cast and instance-of on instances, arrays, texts and class objects.
 use Rattle.std.proofs.Common.{Some, ℕ, List, [], ◌∷◌, ◌++◌, refl}
 use Rattle.std.specs.Prelude.{codes}
-use Rattle.std.specs.Fmt.{digits}
 use Rattle.pi_model.specs.declared.numbers.NameNo.{NameNo}
 use Rattle.pi_model.specs.declared.insn.Insn.{Insn}
 use Rattle.pi_model.specs.declared.insn.Insn.TheVariants.{Const, ConstString, ConstClass, NewInstance, NewArray, CheckCast, InstanceOf, ReturnVoid}
-use Rattle.pi_model.specs.Dispatch.{is_virtual}
-use Rattle.pi_model.specs.Known.{descriptor_of}
 use Rattle.pi_model.specs.Program.{Program}
-use Rattle.pi_machine.specs.Initialisation.{is_clinit}
-use Rattle.pi_machine.specs.Natives.{native_table}
-use Rattle.pi_machine.proofs.Sample.{no, object, string, class_class, exception, error_class, null_pointer, cloneable, ints, longs, bytes, objects, strings, int_rows, own, class, chain, main_method, print, PrintsIn, ThrowsIn}
+use Rattle.pi_machine.proofs.Examples.{Run, outcome, Outcomes, prints_in, throws_in}
+use Rattle.pi_machine.proofs.Sample.{no, object, string, class_class, exception, error_class, null_pointer, cloneable, ints, longs, bytes, objects, strings, int_rows, own, class, chain, main_method, print}
+use Rattle.pi_machine.proofs.Layouts.{a, b, c, i, j}
 
 -- LB; is below LA; and implements LI;, an interface below LJ;; LC; is below LB;; LK; is another interface
-abbrev a : NameNo
-a = own 1
-
-abbrev b : NameNo
-b = own 2
-
-abbrev c : NameNo
-c = own 3
-
-abbrev i : NameNo
-i = own 4
-
-abbrev j : NameNo
-j = own 5
-
 abbrev k : NameNo
 k = own 6
 
@@ -80,14 +62,14 @@ casts (t ∷ ts) = CheckCast 0 t ∷ casts ts
 
 -- what the register holds is of the types of the first list and of none of the second: two steps for each test, and
 -- one for each cast
-abbrev Fits : List Insn → List NameNo → List ℕ → ℕ → Type 0
-Fits make types output steps = PrintsIn (world (make ++ tests types)) output steps
+abbrev fits : List Insn → List NameNo → List ℕ → ℕ → Run
+fits make types output steps = prints_in (world (make ++ tests types)) output steps
 
-abbrev Passes : List Insn → List NameNo → ℕ → Type 0
-Passes make types steps = PrintsIn (world (make ++ casts types)) (codes "1\n") steps
+abbrev passes : List Insn → List NameNo → ℕ → Run
+passes make types steps = prints_in (world (make ++ casts types)) (codes "1\n") steps
 
-abbrev Refused : List Insn → NameNo → ℕ → Type 0
-Refused make t steps = ThrowsIn (world (make ++ casts (t ∷ []))) 13 steps
+abbrev refused : List Insn → NameNo → ℕ → Run
+refused make t steps = throws_in (world (make ++ casts (t ∷ []))) 13 steps
 
 -- a new instance of LB;, which enters two classes first, and arrays of length 2
 abbrev instance_of_b : List Insn
@@ -96,112 +78,64 @@ instance_of_b = NewInstance 0 b ∷ []
 abbrev array_of : NameNo → List Insn
 array_of t = Const 1 2 ∷ NewArray 0 1 t ∷ []
 
--- null is an instance of no type, and passes each cast
-null_fits_none : Fits (Const 0 0 ∷ []) (object ∷ a ∷ i ∷ ints ∷ []) (codes "0\n0\n0\n0\n") 14
-unfolding descriptor_of native_table is_virtual is_clinit digits
-null_fits_none = (100, refl)
+-- null and instances
+types_of_instances : Outcomes (
+    -- null is an instance of no type, and passes each cast
+    fits (Const 0 0 ∷ []) (object ∷ a ∷ i ∷ ints ∷ []) (codes "0\n0\n0\n0\n") 14
+    -- and null passes each cast
+    ∷ passes (Const 0 0 ∷ []) (object ∷ a ∷ k ∷ ints ∷ string ∷ []) 13
+    -- an instance of LB; is of its class, its superclasses and their interfaces, and of nothing else
+    ∷ fits instance_of_b (b ∷ a ∷ object ∷ i ∷ j ∷ []) (codes "1\n1\n1\n1\n1\n") 22
+    -- and of no subclass, other interface, or array
+    ∷ fits instance_of_b (c ∷ k ∷ string ∷ cloneable ∷ arrays_of_b ∷ objects ∷ []) (codes "0\n0\n0\n0\n0\n0\n") 24
+    -- a cast to any of its types passes
+    ∷ passes instance_of_b (b ∷ a ∷ object ∷ i ∷ j ∷ []) 19
+    -- what does not fit throws ClassCastException: a subclass, an unrelated interface, an array
+    ∷ refused instance_of_b c 13
+    -- an interface that it does not implement
+    ∷ refused instance_of_b k 13
+    -- an array of its own class
+    ∷ refused instance_of_b arrays_of_b 13
+    -- an instance of a subclass has the interfaces of the classes above it
+    ∷ fits (NewInstance 0 c ∷ []) (a ∷ b ∷ c ∷ i ∷ j ∷ k ∷ []) (codes "1\n1\n1\n1\n1\n0\n") 27
+    ∷ [])
+unfolding outcome
+types_of_instances = refl
 
--- and null passes each cast
-null_passes : Passes (Const 0 0 ∷ []) (object ∷ a ∷ k ∷ ints ∷ string ∷ []) 13
-unfolding descriptor_of native_table is_virtual is_clinit digits
-null_passes = (100, refl)
+-- arrays
+types_of_arrays : Outcomes (
+    -- an array of references fits by its component, and is a Cloneable and a Serializable; its class is not entered
+    fits (array_of arrays_of_b) (arrays_of_b ∷ arrays_of_a ∷ arrays_of_j ∷ objects ∷ object ∷ cloneable ∷ serializable ∷ []) (codes "1\n1\n1\n1\n1\n1\n1\n") 21
+    -- it is no array of a subclass, of another interface, of ints or of arrays, and not its element
+    ∷ fits (array_of arrays_of_b) (arrays_of_c ∷ arrays_of_k ∷ b ∷ ints ∷ strings ∷ rows_of_objects ∷ []) (codes "0\n0\n0\n0\n0\n0\n") 19
+    -- an array of interfaces is an array of Objects
+    ∷ fits (array_of arrays_of_j) (arrays_of_j ∷ objects ∷ arrays_of_b ∷ []) (codes "1\n1\n0\n") 13
+    -- an array of primitives fits the same array alone, and what each array fits
+    ∷ fits (array_of ints) (ints ∷ object ∷ cloneable ∷ serializable ∷ longs ∷ bytes ∷ objects ∷ []) (codes "1\n1\n1\n1\n0\n0\n0\n") 21
+    -- the rows of an array of arrays are Objects and Cloneables, and no ints
+    ∷ fits (array_of int_rows) (int_rows ∷ objects ∷ arrays_of_cloneable ∷ ints ∷ rows_of_objects ∷ []) (codes "1\n1\n1\n0\n0\n") 17
+    -- casts of an array that pass
+    ∷ passes (array_of arrays_of_b) (arrays_of_a ∷ objects ∷ cloneable ∷ arrays_of_b ∷ []) 13
+    -- an array of ints is no array of longs
+    ∷ refused (array_of ints) longs 8
+    -- an array of LA; is no array of LB;
+    ∷ refused (array_of arrays_of_a) arrays_of_b 8
+    ∷ [])
+unfolding outcome
+types_of_arrays = refl
 
--- an instance of LB; is of its class, its superclasses and their interfaces, and of nothing else
-instance_fits : Fits instance_of_b (b ∷ a ∷ object ∷ i ∷ j ∷ []) (codes "1\n1\n1\n1\n1\n") 22
-unfolding descriptor_of native_table is_virtual is_clinit digits
-instance_fits = (100, refl)
-
--- and of no subclass, other interface, or array
-instance_of_no_other : Fits instance_of_b (c ∷ k ∷ string ∷ cloneable ∷ arrays_of_b ∷ objects ∷ []) (codes "0\n0\n0\n0\n0\n0\n") 24
-unfolding descriptor_of native_table is_virtual is_clinit digits
-instance_of_no_other = (100, refl)
-
--- a cast to any of its types passes
-instance_passes : Passes instance_of_b (b ∷ a ∷ object ∷ i ∷ j ∷ []) 19
-unfolding descriptor_of native_table is_virtual is_clinit digits
-instance_passes = (100, refl)
-
--- what does not fit throws ClassCastException: a subclass, an unrelated interface, an array
-to_subclass : Refused instance_of_b c 13
-unfolding descriptor_of native_table is_virtual is_clinit
-to_subclass = (100, refl)
-
--- an interface that it does not implement
-to_other_interface : Refused instance_of_b k 13
-unfolding descriptor_of native_table is_virtual is_clinit
-to_other_interface = (100, refl)
-
--- an array of its own class
-to_array : Refused instance_of_b arrays_of_b 13
-unfolding descriptor_of native_table is_virtual is_clinit
-to_array = (100, refl)
-
--- an instance of a subclass has the interfaces of the classes above it
-subclass_fits : Fits (NewInstance 0 c ∷ []) (a ∷ b ∷ c ∷ i ∷ j ∷ k ∷ []) (codes "1\n1\n1\n1\n1\n0\n") 27
-unfolding descriptor_of native_table is_virtual is_clinit digits
-subclass_fits = (100, refl)
-
--- an array of references fits by its component, and is a Cloneable and a Serializable; its class is not entered
-array_fits : Fits (array_of arrays_of_b) (arrays_of_b ∷ arrays_of_a ∷ arrays_of_j ∷ objects ∷ object ∷ cloneable ∷ serializable ∷ []) (codes "1\n1\n1\n1\n1\n1\n1\n") 21
-unfolding descriptor_of native_table is_virtual is_clinit digits
-array_fits = (100, refl)
-
--- it is no array of a subclass, of another interface, of ints or of arrays, and not its element
-array_of_no_other : Fits (array_of arrays_of_b) (arrays_of_c ∷ arrays_of_k ∷ b ∷ ints ∷ strings ∷ rows_of_objects ∷ []) (codes "0\n0\n0\n0\n0\n0\n") 19
-unfolding descriptor_of native_table is_virtual is_clinit digits
-array_of_no_other = (100, refl)
-
--- an array of interfaces is an array of Objects
-interfaces_fit : Fits (array_of arrays_of_j) (arrays_of_j ∷ objects ∷ arrays_of_b ∷ []) (codes "1\n1\n0\n") 13
-unfolding descriptor_of native_table is_virtual is_clinit digits
-interfaces_fit = (100, refl)
-
--- an array of primitives fits the same array alone, and what each array fits
-ints_fit : Fits (array_of ints) (ints ∷ object ∷ cloneable ∷ serializable ∷ longs ∷ bytes ∷ objects ∷ []) (codes "1\n1\n1\n1\n0\n0\n0\n") 21
-unfolding descriptor_of native_table is_virtual is_clinit digits
-ints_fit = (100, refl)
-
--- the rows of an array of arrays are Objects and Cloneables, and no ints
-rows_fit : Fits (array_of int_rows) (int_rows ∷ objects ∷ arrays_of_cloneable ∷ ints ∷ rows_of_objects ∷ []) (codes "1\n1\n1\n0\n0\n") 17
-unfolding descriptor_of native_table is_virtual is_clinit digits
-rows_fit = (100, refl)
-
--- casts of an array that pass
-arrays_pass : Passes (array_of arrays_of_b) (arrays_of_a ∷ objects ∷ cloneable ∷ arrays_of_b ∷ []) 13
-unfolding descriptor_of native_table is_virtual is_clinit digits
-arrays_pass = (100, refl)
-
--- an array of ints is no array of longs
-ints_to_longs : Refused (array_of ints) longs 8
-unfolding descriptor_of native_table is_virtual is_clinit
-ints_to_longs = (100, refl)
-
--- an array of LA; is no array of LB;
-to_array_of_subclass : Refused (array_of arrays_of_a) arrays_of_b 8
-unfolding descriptor_of native_table is_virtual is_clinit
-to_array_of_subclass = (100, refl)
-
--- a literal is a text, and a class object a Class
-literal_fits : Fits (ConstString 0 string ∷ []) (string ∷ object ∷ class_class ∷ cloneable ∷ a ∷ []) (codes "1\n1\n0\n0\n0\n") 16
-unfolding descriptor_of native_table is_virtual is_clinit digits
-literal_fits = (100, refl)
-
--- a class object is a Class, and no instance of its type
-class_object_fits : Fits (ConstClass 0 a ∷ []) (class_class ∷ object ∷ string ∷ a ∷ []) (codes "1\n1\n0\n0\n") 14
-unfolding descriptor_of native_table is_virtual is_clinit digits
-class_object_fits = (100, refl)
-
--- a text is no Class
-literal_to_class : Refused (ConstString 0 string ∷ []) class_class 7
-unfolding descriptor_of native_table is_virtual is_clinit
-literal_to_class = (100, refl)
-
--- and the class object of String no text
-class_to_its_type : Refused (ConstClass 0 string ∷ []) string 7
-unfolding descriptor_of native_table is_virtual is_clinit
-class_to_its_type = (100, refl)
-
--- a throwable of the machine has the classes above it
-throwable_fits : Fits (NewInstance 0 null_pointer ∷ []) (exception ∷ object ∷ error_class ∷ []) (codes "1\n1\n0\n") 12
-unfolding descriptor_of native_table is_virtual is_clinit digits
-throwable_fits = (100, refl)
+-- texts, class objects and throwables
+types_of_others : Outcomes (
+    -- a literal is a text, and a class object a Class
+    fits (ConstString 0 string ∷ []) (string ∷ object ∷ class_class ∷ cloneable ∷ a ∷ []) (codes "1\n1\n0\n0\n0\n") 16
+    -- a class object is a Class, and no instance of its type
+    ∷ fits (ConstClass 0 a ∷ []) (class_class ∷ object ∷ string ∷ a ∷ []) (codes "1\n1\n0\n0\n") 14
+    -- a text is no Class
+    ∷ refused (ConstString 0 string ∷ []) class_class 7
+    -- and the class object of String no text
+    ∷ refused (ConstClass 0 string ∷ []) string 7
+    -- a throwable of the machine has the classes above it
+    ∷ fits (NewInstance 0 null_pointer ∷ []) (exception ∷ object ∷ error_class ∷ []) (codes "1\n1\n0\n") 12
+    ∷ [])
+unfolding outcome
+types_of_others = refl

@@ -1,6 +1,6 @@
 -- Helpers for worked examples of more than one class: a main class, and classes with static ints, initialisers and
 -- methods beside it.
-use Rattle.std.proofs.Common.{Some, ◌≡◌, ℕ, List, [], ◌∷◌, Option}
+use Rattle.std.proofs.Common.{Some, ◌≡◌, ℕ, List, [], ◌∷◌}
 use Rattle.std.specs.Prelude.{codes, option_map}
 use Rattle.pi_model.specs.declared.numbers.NameNo.{NameNo}
 use Rattle.pi_model.specs.declared.describe.ClassDesc.{ClassDesc}
@@ -17,8 +17,7 @@ use Rattle.pi_model.specs.Program.{Program}
 use Rattle.pi_machine.specs.Start.{start_state}
 use Rattle.pi_machine.specs.State.{State}
 use Rattle.pi_machine.specs.Step.{after_steps}
-use Rattle.pi_machine.specs.Ends.{Returned, Uncaught, EndsWith}
-use Rattle.pi_machine.proofs.Sample.{chain, class, object, own, int, void, method, main_method, clinit_method, code, static_field, field_ref, method_ref, print, wide, finish}
+use Rattle.pi_machine.proofs.Sample.{chain, class, object, own, int, void, method, main_method, clinit_method, code, static_field, field_ref, method_ref, print}
 
 -- the names of the second file, from 60 on
 abbrev pub names : List (List ℕ)
@@ -107,14 +106,6 @@ tried insns tries others = chain names (class 1 t 1 (Some object) [] [] (main_me
 
 abbrev pub main_and : List Insn → List ClassDesc → Program
 main_and insns others = tried insns [] others
-
--- the run returns; it prints so, in so many steps
-abbrev pub Returns : Program → List ℕ → ℕ → Type 0
-Returns p output steps = EndsWith p wide 12 [] (finish Returned output steps)
-
--- the run ends by a throwable of the class of that number, with that message
-abbrev pub Dies : Program → ℕ → Option (List ℕ) → List ℕ → ℕ → Type 0
-Dies p class message output steps = EndsWith p wide 12 [] (finish (Uncaught class message) output steps)
 
 -- what is seen of the state after so many steps
 abbrev pub Sees : {A : Type 0} → Program → (State → A) → ℕ → A → Type 0

@@ -3,6 +3,7 @@ mod ActExamples
 pub mod Changes
 mod Costs
 pub mod Each
+pub mod Examples
 pub mod Ended
 pub mod FieldNumbers
 mod Five
@@ -31,10 +32,12 @@ mod RunEnds
 pub mod RunLaws
 pub mod Sample
 pub mod Statuses
-pub mod StepDeeds
+pub mod Moves
 pub mod StepForms
+mod SoundConstants
 mod SoundExamples
 pub mod SoundStarts
+mod SoundThings
 pub mod SoundValues
 pub mod Sounds
 mod Stuck

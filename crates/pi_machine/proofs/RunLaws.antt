@@ -2,7 +2,7 @@
 use Rattle.std.proofs.Common.{◌≡◌, ℕ, zero, suc, List, [], ◌∷◌, ◌++◌, Option, Some, None, Bool, true, false, refl, rules, sym, ◌∙◌, ap, subst, append_assoc, append-nil}
 use Rattle.pi_model.specs.Program.{Program}
 use Rattle.pi_machine.specs.State.{State}
-use Rattle.pi_machine.specs.Deeds.{Deed, Make, Touch, Saw, Reads, Writes, SetStatic, SetStatus, SetField, SetItem, CallNative, Print, Start, Push, Pop, SetReg, Jump, GoOn, SetPhase, Pend, Unpend, Hold, do_deed, do_all}
+use Rattle.pi_machine.specs.Deeds.{Deed, Print, do_deed, do_all}
 use Rattle.pi_machine.specs.Operands.{Deeds}
 use Rattle.pi_machine.specs.Step.{deeds_of}
 use Rattle.std.specs.Prelude.{if◌then◌else◌, nat_lt, ◌==◌}
@@ -37,27 +37,8 @@ grows_by : (s : State) → Grows s s
 grows_by s = record { rest = []; is = search rules }
 
 deed_grows : (d : Deed) (s : State) → Grows s (do_deed d s)
-deed_grows (Make o) s = record { rest = []; is = search rules }
-deed_grows (Touch n) s = record { rest = []; is = search rules }
-deed_grows (Saw look) s = record { rest = []; is = search rules }
-deed_grows (Reads place) s = record { rest = []; is = search rules }
-deed_grows (Writes place) s = record { rest = []; is = search rules }
-deed_grows (SetStatic f v) s = record { rest = []; is = search rules }
-deed_grows (SetStatus c status) s = record { rest = []; is = search rules }
-deed_grows (SetField place i v) s = record { rest = []; is = search rules }
-deed_grows (SetItem place i v) s = record { rest = []; is = search rules }
-deed_grows (CallNative m) s = record { rest = []; is = search rules }
 deed_grows (Print bytes) s = record { rest = bytes; is = refl }
-deed_grows Start s = record { rest = []; is = search rules }
-deed_grows (Push e) s = record { rest = []; is = search rules }
-deed_grows Pop s = record { rest = []; is = search rules }
-deed_grows (SetReg a v) s = record { rest = []; is = search rules }
-deed_grows (Jump to) s = record { rest = []; is = search rules }
-deed_grows GoOn s = record { rest = []; is = search rules }
-deed_grows (SetPhase phase) s = record { rest = []; is = search rules }
-deed_grows (Pend r) s = record { rest = []; is = search rules }
-deed_grows Unpend s = record { rest = []; is = search rules }
-deed_grows (Hold h) s = record { rest = []; is = search rules }
+deed_grows _ s = record { rest = []; is = search rules }
 
 grows_on : (a b c : State) → Grows a b → Grows b c → Grows a c
 grows_on a b c x y = record { rest = x.rest ++ y.rest; is = sym (append_assoc a.output x.rest y.rest) ∙ (ap (λ front. front ++ y.rest) x.is ∙ y.is) }

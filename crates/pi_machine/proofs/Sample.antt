@@ -22,7 +22,7 @@ use Rattle.pi_model.specs.Program.{Program, no_files, with_file}
 use Rattle.pi_model.specs.Values.{Value}
 use Rattle.pi_machine.specs.State.{State, Frame, Thing}
 use Rattle.pi_machine.specs.Start.{first_state}
-use Rattle.pi_machine.specs.Ends.{Setting, Finish, End, Returned, Uncaught, EndsWith}
+use Rattle.pi_machine.specs.Ends.{Setting, Finish, End}
 
 abbrev pub no : ℕ → NameNo
 no n = record { 0 = n }
@@ -268,19 +268,3 @@ wide = limits 1000 1000000 1000
 
 abbrev pub finish : End → List ℕ → ℕ → Finish
 finish end output steps = record { end = end; output = output; steps = steps }
-
--- main of a program, the method of number 12, prints so and returns, after so many steps
-abbrev pub PrintsIn : Program → List ℕ → ℕ → Type 0
-PrintsIn p output steps = EndsWith p wide 12 [] (finish Returned output steps)
-
--- main of a program ends by a new throwable of the class of that number
-abbrev pub ThrowsIn : Program → ℕ → ℕ → Type 0
-ThrowsIn p class steps = EndsWith p wide 12 [] (finish (Uncaught class None) [] steps)
-
--- main of these instructions prints so and returns, after so many steps; four of them come before its first instruction
-abbrev pub Prints : List Insn → List ℕ → ℕ → Type 0
-Prints insns output steps = EndsWith (main_program insns []) wide 12 [] (finish Returned output steps)
-
--- main of these instructions ends by a new throwable of the class of that number
-abbrev pub Throws : List Insn → ℕ → ℕ → Type 0
-Throws insns class steps = EndsWith (main_program insns []) wide 12 [] (finish (Uncaught class None) [] steps)

@@ -15,7 +15,7 @@ use Rattle.pi_machine.specs.Objects.{made_of}
 use Rattle.pi_machine.specs.Start.{first_values, first_status, references_from, first_state, with_main}
 use Rattle.pi_machine.specs.Sound.{EachOf, IsSoundValue, IsSoundText, IsSoundThing, IsSound, StartsAreSound}
 use Rattle.pi_machine.proofs.Each.{each_joined, each_map, each_mono}
-use Rattle.pi_machine.proofs.Sounds.{Grows, grows_more, thing_grows, with_things}
+use Rattle.pi_machine.proofs.SoundThings.{Grows, grows_more, thing_grows, with_things}
 
 -- the first values
 first_sound : (b : Bool) → IsSoundValue [] (if b then Long 0 else Word 0)

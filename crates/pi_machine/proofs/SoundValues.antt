@@ -14,7 +14,7 @@ use Rattle.pi_model.specs.Sizes.{letter_of}
 use Rattle.pi_model.specs.Values.{Ref, Num, Lit, Cls, Value, Word, Low, High, Long, At, Object, Instance, Array, Text}
 use Rattle.pi_machine.specs.State.{State, Frame, Thing, Made, Touched}
 use Rattle.pi_machine.specs.Objects.{made_of, object_at, OfArray, shape_of, shape_at, field_in, item_in}
-use Rattle.pi_machine.specs.Operands.{kept}
+use Rattle.pi_machine.specs.Operands.{stored_value}
 use Rattle.pi_machine.specs.Natives.{units_in, words_in}
 use Rattle.pi_machine.specs.Rows.Numbers.{takes_long}
 use Rattle.pi_machine.specs.Rows.Arrays.{first_item}
@@ -153,7 +153,7 @@ module _ (p : Program) (s : State) (h : IsSound p s) (names : EachOf IsSoundText
   half_high (Some r) n (inl x) = inl (upper n x)
   half_high (Some r) n (inr x) = cc
 
-  kept_sound : (k : Access) (v : Value) → Sound v → Sound (kept k v)
+  kept_sound : (k : Access) (v : Value) → Sound v → Sound (stored_value k v)
   kept_sound k (Word n) x = narrowed_small k n x
   kept_sound k (Low n) x = x
   kept_sound k (High n) x = x
@@ -183,7 +183,7 @@ module _ (p : Program) (s : State) (h : IsSound p s) (names : EachOf IsSoundText
     wide = λ m n x y. omega (arith, x, y);
     low = half_low;
     high = half_high;
-    kept = kept_sound;
+    stored_value = kept_sound;
     int = λ op m n r x y e. result_small int_half op m n r x y e;
     long = λ op b m n r x y e. result_small long_half op m n r x (number_small b n y) e;
     unary = λ op n x. unary_small s.things op n (number_small (takes_long op) n x);

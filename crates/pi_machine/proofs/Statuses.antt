@@ -1,31 +1,21 @@
 -- Statuses of classes move one way, and the class of each record on the stack is in progress.
-use Rattle.std.proofs.Common.{◌≡◌, ℕ, zero, suc, ◌+◌, ◌==◌, List, [], ◌∷◌, ◌++◌, slice_get, slice_set, Option, Some, None, Bool, true, false, ◌||◌, option_map, refl, sym, ◌∙◌, ap, subst}
+use Rattle.std.proofs.Common.{◌≡◌, ℕ, zero, suc, ◌==◌, List, [], ◌∷◌, slice_get, slice_set, Option, Some, None, Bool, true, false, ◌||◌, option_map, refl, sym, ◌∙◌, ap, subst}
 use Rattle.std.proofs.lemmas.Bool.{eqb-false, eqb-true}
 use Rattle.std.specs.List.{list_any}
 use Rattle.pi_model.specs.declared.reason.ClassState.{ClassState}
 use Rattle.pi_model.specs.declared.reason.ClassState.TheVariants.{Fresh, InProgress, Done, Erroneous}
-use Rattle.pi_model.specs.declared.describe.ClassDesc.{ClassDesc}
-use Rattle.pi_model.specs.declared.describe.FieldDesc.{FieldDesc}
-use Rattle.pi_model.specs.declared.describe.Catch.{Catch}
-use Rattle.pi_model.specs.declared.describe.Line.{Line}
-use Rattle.pi_model.specs.declared.describe.Init.{Init}
-use Rattle.pi_model.specs.declared.describe.Init.TheVariants as init
-use Rattle.pi_model.specs.Program.{Program, field_number, method_number}
-use Rattle.pi_model.specs.Known.{Known, Error, ExceptionInInitializer, NoClassDefFound, descriptor_of}
-use Rattle.pi_model.specs.Search.{class_at}
-use Rattle.pi_model.specs.Values.{Ref}
-use Rattle.pi_machine.specs.State.{State, Frame, Phase, Entered, ValuesSet, Running, Entry, Call, Record}
-use Rattle.pi_machine.specs.Deeds.{Look, Deed, Saw, OfStatus, SetStatus, Push, Pop, SetReg, Jump, GoOn, SetPhase, do_deed, do_all, popped, on_frame, on_record, with_register, jumped, past_call}
-use Rattle.pi_machine.specs.Operands.{Deeds, first_do}
-use Rattle.pi_machine.specs.Codes.{code_of, line_of}
-use Rattle.pi_machine.specs.Throwing.{throws, is_of_type, handler_for, to_handler, fails, throwable_move}
-use Rattle.pi_machine.specs.Rows.Calls.{entry_frame}
-use Rattle.pi_machine.specs.Initialisation.{Needed, need_of, enters, by_status, after_needed, by_need, main_frame, argument_list, start_move, value_deeds, values_from, clinit_of, calls_clinit, clinit_move, record_move}
-use Rattle.pi_machine.specs.Step.{instruction_move, move_of, deeds_of, step}
+use Rattle.pi_model.specs.Program.{Program}
+use Rattle.pi_machine.specs.State.{State, Frame, Phase, Running, Entry, Call, Record, Thrown}
+use Rattle.pi_machine.specs.Deeds.{Deed, Make, SetStatus, Start, Push, Pop, SetReg, Jump, GoOn, SetPhase, Pend, Unpend, Hold, do_deed, do_all, stack_below, on_frame, on_record, with_register, frame_at, past_call}
+use Rattle.pi_machine.specs.Operands.{Deeds}
+use Rattle.pi_model.specs.Fields.{new_instance}
+use Rattle.pi_machine.specs.Throwing.{next_made}
+use Rattle.pi_machine.specs.Step.{deeds_of, step}
 use Rattle.pi_machine.specs.StepLaws.{EachDeed, is_record_of, RecordsRunOn, RecordsRun, StatusMoves, Stays, Enters, Finishes, Breaks, StepsKeepStatuses, StartRecordsRun}
 use Rattle.pi_machine.proofs.Changes.{get_set_other, first_none, others_none}
 use Rattle.pi_machine.proofs.RowDeeds.{row_deeds}
-use Rattle.pi_machine.proofs.RowDeeds.Words.{Does, RowKinds, each_append, stuck, these, throwing}
+use Rattle.pi_machine.proofs.RowDeeds.Words.{RowFact, on_some}
+use Rattle.pi_machine.proofs.Moves.{Move, OfRow, LeavesFrame, Handles, CallsMain, SetsValues, Initialises, Completes, Fails, Replaces, Throws, EntersClass, Sees, values_in, deeds_in, by_move, each_value}
 
 -- what is set at a place is there
 get_set_same : {A : Type 0} (xs : List A) (i : ℕ) (x y : A) → slice_get xs i ≡ Some x → slice_get (slice_set xs i y) i ≡ Some y
@@ -42,34 +32,14 @@ is_calm _ = true
 Calm : Deed → Type 0
 Calm d = is_calm d ≡ true
 
-calm_rows : (p : Program) (s : State) (f : Frame) → RowKinds p s f Calm
+calm_rows : (p : Program) (s : State) (f : Frame) (d : Deed) → RowFact p s f d → Calm d
 unfolding is_calm Calm
-calm_rows p s f = record {
-  make = λ o. refl;
-  touch = λ n. refl;
-  saw = λ look e. refl;
-  reads = λ n. refl;
-  writes = λ n. refl;
-  set_static = λ field v e. refl;
-  set_field = λ n i v e. refl;
-  set_item = λ n i v e. refl;
-  call_native = λ m. refl;
-  print = λ bytes. refl;
-  push_call = λ g. refl;
-  pop = refl;
-  set_reg = λ a v e. refl;
-  jump = λ to. refl;
-  past_call = refl;
-  pend = λ r. refl;
-  hold = λ h. refl;
-}
-
-calm_throw : (p : Program) (s : State) (class : Known) → Does (EachDeed Calm) (throws p s class)
-unfolding is_calm Calm
-calm_throw p s class = throwing (λ o r. (refl, (refl, tt))) p s class
+calm_rows p s f (SetStatus c status) e = absurd e
+calm_rows p s f (Push (Record c phase)) e = absurd e
+calm_rows p s f _ e = refl
 
 -- the stack's own moves keep that the records run
-popped_run : (statuses : List ClassState) (stack : List Entry) → RecordsRunOn statuses stack → RecordsRunOn statuses (popped stack)
+popped_run : (statuses : List ClassState) (stack : List Entry) → RecordsRunOn statuses stack → RecordsRunOn statuses (stack_below stack)
 popped_run statuses [] r = r
 popped_run statuses (Call f ∷ below) r = r
 popped_run statuses (Record c phase ∷ below) r = r.2
@@ -93,7 +63,7 @@ calm_run (Push (Record c phase)) s e r = cc
 calm_run (Push (Call f)) s e r = r
 calm_run Pop s e r = popped_run s.statuses s.stack r
 calm_run (SetReg a v) s e r = frame_run (with_register a v) s.statuses s.stack r
-calm_run (Jump to) s e r = frame_run (jumped to) s.statuses s.stack r
+calm_run (Jump to) s e r = frame_run (frame_at to) s.statuses s.stack r
 calm_run GoOn s e r = frame_run past_call s.statuses s.stack r
 calm_run (SetPhase phase) s e r = phase_run phase s.statuses s.stack r
 calm_run _ s e r = r
@@ -154,164 +124,52 @@ apart_run statuses c status (Record d phase ∷ below) r e = (
   apart_run statuses c status below r.2 (others_none (c == d) (list_any (is_record_of c) below) e),
 )
 
--- what each list of deeds owes, done in a state
-record AllFine (s : State) (ds : Deeds) : Type 0 where
-  fine : (deeds : List Deed) → ds ≡ Some deeds → Fine s (do_all deeds s)
-
-same_deeds : (x y : List Deed) → Some x ≡ Some y → x ≡ y
-same_deeds x y e = cc
-
-fine_none : (s : State) → AllFine s None
-fine_none s = record { fine = λ deeds e. cc }
-
-fine_list : (s : State) (ds : List Deed) → Fine s (do_all ds s) → AllFine s (Some ds)
-fine_list s ds f = record { fine = λ deeds e. subst (λ (x : List Deed). Fine s (do_all x s)) (same_deeds ds deeds e) f }
-
-fine_calm : (s : State) → RecordsRun s → (ds : Deeds) → Does (EachDeed Calm) ds → AllFine s ds
-fine_calm s r None a = fine_none s
-fine_calm s r (Some ds) a = fine_list s ds (calm_fine s s ds (nothing_moved s r) a.each)
-
--- to see something first changes nothing
-fine_seen : (s : State) (look : Look) (ds : Deeds) → AllFine s ds → AllFine s (first_do (Saw look) ds)
-fine_seen s look None f = fine_none s
-fine_seen s look (Some ds) f = fine_list s (Saw look ∷ ds) (f.fine ds refl)
-
--- a fresh class is entered
-fine_enters : (s : State) (c : ℕ) → RecordsRun s → slice_get s.statuses c ≡ Some Fresh → AllFine s (Some (enters c))
-fine_enters s c r e = fine_list s (enters c) (
-    let none = fresh_none s.statuses c e s.stack r in
-    record {
-      run = (get_set_same s.statuses c Fresh InProgress e, none, apart_run s.statuses c InProgress s.stack r none);
-      moves = set_moves s.statuses c Fresh InProgress e Enters;
-    })
-
 -- the record on top ends: its class gets its last status, the record goes, and calm deeds follow
 closed : (statuses : List ClassState) (c : ℕ) (status : ClassState) (phase : Phase) (below stack : List Entry) → stack ≡ Record c phase ∷ below
-    → RecordsRunOn statuses stack → RecordsRunOn (slice_set statuses c status) (popped stack)
+    → RecordsRunOn statuses stack → RecordsRunOn (slice_set statuses c status) (stack_below stack)
 closed statuses c status phase below stack e r =
     let t = subst (RecordsRunOn statuses) e r in
-    subst (λ (x : List Entry). RecordsRunOn (slice_set statuses c status) (popped x)) (sym e) (apart_run statuses c status below t.2 t.1)
+    subst (λ (x : List Entry). RecordsRunOn (slice_set statuses c status) (stack_below x)) (sym e) (apart_run statuses c status below t.2 t.1)
 
 fine_closes : (s : State) (c : ℕ) (status : ClassState) (phase : Phase) (below : List Entry) (ds : List Deed) → s.stack ≡ Record c phase ∷ below
-    → RecordsRun s → StatusMoves (Some InProgress) (Some status) → EachDeed Calm ds → AllFine s (Some (SetStatus c status ∷ Pop ∷ ds))
+    → RecordsRun s → StatusMoves (Some InProgress) (Some status) → EachDeed Calm ds → Fine s (do_all (SetStatus c status ∷ Pop ∷ ds) s)
 fine_closes s c status phase below ds e r m a =
     let t = subst (RecordsRunOn s.statuses) e r in
-    fine_list s (SetStatus c status ∷ Pop ∷ ds) (calm_fine s (do_all (SetStatus c status ∷ Pop ∷ []) s) ds (record {
+    calm_fine s (do_all (SetStatus c status ∷ Pop ∷ []) s) ds (record {
       run = closed s.statuses c status phase below s.stack e r;
       moves = set_moves s.statuses c InProgress status t.0 m;
-    }) a)
+    }) a
 
 -- the moves
-fails_fine : (p : Program) (s : State) (c : ℕ) (phase : Phase) (below : List Entry) (b : Bool) → s.stack ≡ Record c phase ∷ below
-    → RecordsRun s → AllFine s (fails p s c b)
-fails_fine p s c phase below true e r = fine_closes s c Erroneous phase below [] e r Breaks tt
-fails_fine p s c phase below false e r = by_thrown (throws p s ExceptionInInitializer) (calm_throw p s ExceptionInInitializer)
-  where
-    by_thrown : (thrown : Deeds) → Does (EachDeed Calm) thrown → AllFine s (option_map (λ ds. SetStatus c Erroneous ∷ Pop ∷ ds) thrown)
-    by_thrown None a = fine_none s
-    by_thrown (Some ds) a = fine_closes s c Erroneous phase below ds e r Breaks a.each
-
-handler_calm : (t : Ref) (h : Option Catch) → Does (EachDeed Calm) (to_handler t h)
+move_fine : (p : Program) (s : State) → RecordsRun s → (m : Move p s) → Fine s (do_all (deeds_in m) s)
 unfolding is_calm Calm
-handler_calm t None = these (refl, tt)
-handler_calm t (Some h) = these (refl, (refl, (refl, tt)))
-
-throwable_fine : (p : Program) (s : State) (t : Ref) (stack : List Entry) → s.stack ≡ stack → RecordsRun s → AllFine s (throwable_move p s t stack)
-throwable_fine p s t [] e r = fine_none s
-throwable_fine p s t (Call f ∷ below) e r = fine_calm s r (to_handler t (handler_for p s t f)) (handler_calm t (handler_for p s t f))
-throwable_fine p s t (Record c phase ∷ below) e r = fails_fine p s c phase below (is_of_type p s t (descriptor_of Error)) e r
-
-main_calm : (f : Option Frame) → Does (EachDeed Calm) (main_frame f)
-unfolding is_calm Calm
-main_calm None = stuck
-main_calm (Some f) = these (refl, (refl, tt))
-
-start_calm : (p : Program) (s : State) (started : Bool) (main : Option ℕ) → Does (EachDeed Calm) (start_move p s started main)
-start_calm p s true main = stuck
-start_calm p s false None = stuck
-start_calm p s false (Some m) = main_calm (entry_frame m (code_of p m) (argument_list s.args))
-
-instruction_calm : (p : Program) (s : State) (f : Frame) (l : Option Line) → Does (EachDeed Calm) (instruction_move p s f l)
-instruction_calm p s f None = stuck
-instruction_calm p s f (Some l) = row_deeds (calm_rows p s f) l.units l.insn
-
-value_calm : (f : ℕ) (i : Init) → EachDeed Calm (value_deeds f i)
-unfolding is_calm Calm
-value_calm f init.Zero = tt
-value_calm f (init.Word n) = (refl, tt)
-value_calm f (init.Long n) = (refl, tt)
-value_calm f (init.Str n) = (refl, (refl, tt))
-value_calm f (init.Cls n) = (refl, tt)
-
-values_calm : (fields : List FieldDesc) (f : ℕ) → EachDeed Calm (values_from f fields)
-values_calm [] f = tt
-values_calm (d ∷ others) f = each_append Calm (value_deeds f d.init) (values_from (f + 1) others) (value_calm f d.init) (values_calm others (f + 1))
-
-phase_calm : (phase : Phase) → EachDeed Calm (SetPhase phase ∷ [])
-unfolding is_calm Calm
-phase_calm phase = (refl, tt)
-
-clinit_calm : (f : Option Frame) → Does (EachDeed Calm) (calls_clinit f)
-unfolding is_calm Calm
-clinit_calm None = stuck
-clinit_calm (Some f) = these (refl, (refl, tt))
-
-clinit_fine : (p : Program) (s : State) (c : ℕ) (phase : Phase) (below : List Entry) (place : Option ℕ) → s.stack ≡ Record c phase ∷ below
-    → RecordsRun s → AllFine s (clinit_move p c place)
-clinit_fine p s c phase below None e r = fine_closes s c Done phase below [] e r Finishes tt
-clinit_fine p s c phase below (Some place) e r =
-    let frame = entry_frame (method_number p c place) (code_of p (method_number p c place)) [] in
-    fine_calm s r (calls_clinit frame) (clinit_calm frame)
-
-record_fine : (p : Program) (s : State) (c : ℕ) (phase : Phase) (below : List Entry) (d : Option ClassDesc) → s.stack ≡ Record c phase ∷ below
-    → RecordsRun s → AllFine s (record_move p c phase d)
-record_fine p s c phase below None e r = fine_none s
-record_fine p s c Entered below (Some d) e r =
-    let values = values_from (field_number p c 0) d.fields in
-    fine_calm s r (Some (values ++ SetPhase ValuesSet ∷ []))
-    (these (each_append Calm values (SetPhase ValuesSet ∷ []) (values_calm d.fields (field_number p c 0)) (phase_calm ValuesSet)))
-record_fine p s c ValuesSet below (Some d) e r = clinit_fine p s c ValuesSet below (clinit_of p d) e r
-record_fine p s c Running below (Some d) e r = fine_closes s c Done Running below [] e r Finishes tt
-
-move_fine : (p : Program) (s : State) (pending : Option Ref) (stack : List Entry) → s.stack ≡ stack → RecordsRun s
-    → AllFine s (move_of p s pending stack)
-move_fine p s (Some t) stack e r = throwable_fine p s t stack e r
-move_fine p s None [] e r = fine_calm s r (start_move p s s.started s.main) (start_calm p s s.started s.main)
-move_fine p s None (Call f ∷ below) e r = fine_calm s r (instruction_move p s f (line_of p f)) (instruction_calm p s f (line_of p f))
-move_fine p s None (Record c phase ∷ below) e r = record_fine p s c phase below (class_at p c) e r
-
--- the classes that the move needs come first
-status_fine : (p : Program) (s : State) (c : ℕ) (status : Option ClassState) (move : Deeds) → slice_get s.statuses c ≡ status → RecordsRun s
-    → AllFine s move → AllFine s (by_status p s c status move)
-status_fine p s c None move e r f = fine_none s
-status_fine p s c (Some Fresh) move e r f = fine_enters s c r e
-status_fine p s c (Some InProgress) move e r f = fine_seen s (OfStatus c InProgress) move f
-status_fine p s c (Some Done) move e r f = fine_seen s (OfStatus c Done) move f
-status_fine p s c (Some Erroneous) move e r f =
-    fine_seen s (OfStatus c Erroneous) (throws p s NoClassDefFound) (fine_calm s r (throws p s NoClassDefFound) (calm_throw p s NoClassDefFound))
-
-needed_fine : (p : Program) (s : State) (classes : List ℕ) (move : Deeds) → RecordsRun s → AllFine s move → AllFine s (after_needed p s classes move)
-needed_fine p s [] move r f = f
-needed_fine p s (c ∷ others) move r f =
-    status_fine p s c (slice_get s.statuses c) (after_needed p s others move) refl r (needed_fine p s others move r f)
-
-need_fine : (p : Program) (s : State) (needed : Needed) (move : Deeds) → RecordsRun s → AllFine s move → AllFine s (by_need p s needed move)
-need_fine p s None move r f = fine_none s
-need_fine p s (Some classes) move r f = needed_fine p s classes move r f
-
-deeds_fine : (p : Program) (s : State) → RecordsRun s → AllFine s (deeds_of p s)
-deeds_fine p s r =
-    need_fine p s (need_of p s s.pending s.stack) (move_of p s s.pending s.stack) r (move_fine p s s.pending s.stack refl r)
+move_fine p s r (OfRow f below l deeds top at is) = calm_fine s s deeds (nothing_moved s r) (on_some deeds is (row_deeds p s f (calm_rows p s f) (λ m. refl) l.units l.insn))
+move_fine p s r (SetsValues c d is) = calm_fine s s (values_in p c d) (nothing_moved s r) (each_value Calm p c d is (λ field v h. refl) (λ n. refl) refl)
+move_fine p s r (Completes c phase below top) = fine_closes s c Done phase below [] top r Finishes tt
+move_fine p s r (Fails c phase below top) = fine_closes s c Erroneous phase below [] top r Breaks tt
+move_fine p s r (Replaces c phase below top class) = fine_closes s c Erroneous phase below (Make (new_instance p class) ∷ Pend (next_made s) ∷ []) top r Breaks (refl, (refl, tt))
+move_fine p s r (EntersClass c is) =
+    let none = fresh_none s.statuses c is s.stack r in
+    record {
+      run = (get_set_same s.statuses c Fresh InProgress is, none, apart_run s.statuses c InProgress s.stack r none);
+      moves = set_moves s.statuses c Fresh InProgress is Enters;
+    }
+move_fine p s r (Sees c status is move) = move_fine p s r move
+move_fine p s r LeavesFrame = calm_fine s s (Pop ∷ []) (nothing_moved s r) (refl, tt)
+move_fine p s r (Handles t h is) = calm_fine s s (Unpend ∷ Hold (Thrown t) ∷ Jump h.at ∷ []) (nothing_moved s r) (refl, (refl, (refl, tt)))
+move_fine p s r (CallsMain m f is) = calm_fine s s (Start ∷ Push (Call f) ∷ []) (nothing_moved s r) (refl, (refl, tt))
+move_fine p s r (Initialises m f is) = calm_fine s s (SetPhase Running ∷ Push (Call f) ∷ []) (nothing_moved s r) (refl, (refl, tt))
+move_fine p s r (Throws class) = calm_fine s s (Make (new_instance p class) ∷ Pend (next_made s) ∷ []) (nothing_moved s r) (refl, (refl, tt))
 
 same_state : (x y : State) → Some x ≡ Some y → x ≡ y
 same_state x y e = cc
 
-step_fine_by : (s after : State) (ds : Deeds) → AllFine s ds → option_map (λ deeds. do_all deeds s) ds ≡ Some after → Fine s after
-step_fine_by s after None f e = cc
-step_fine_by s after (Some ds) f e = subst (Fine s) (same_state (do_all ds s) after e) (f.fine ds refl)
+step_fine_by : (p : Program) (s after : State) (ds : Deeds) → RecordsRun s → deeds_of p s ≡ ds → option_map (λ deeds. do_all deeds s) ds ≡ Some after → Fine s after
+step_fine_by p s after None r is e = cc
+step_fine_by p s after (Some ds) r is e = subst (Fine s) (same_state (do_all ds s) after e) (by_move (λ deeds. Fine s (do_all deeds s)) p s (move_fine p s r) ds is)
 
 step_fine : (p : Program) (s after : State) → RecordsRun s → step p s ≡ Some after → Fine s after
-step_fine p s after r e = step_fine_by s after (deeds_of p s) (deeds_fine p s r) e
+step_fine p s after r e = step_fine_by p s after (deeds_of p s) r refl e
 
 pub steps_keep_statuses : StepsKeepStatuses
 steps_keep_statuses = record {

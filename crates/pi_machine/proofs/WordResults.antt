@@ -13,7 +13,7 @@ use Rattle.pi_model.specs.declared.insn.Access.{Access}
 use Rattle.pi_model.specs.declared.insn.Access.TheVariants as access
 use Rattle.pi_model.specs.Arithmetic.{unless_zero, binary_result, sign_extension}
 use Rattle.pi_machine.specs.State.{Thing}
-use Rattle.pi_machine.specs.Operands.{narrowed}
+use Rattle.pi_machine.specs.Operands.{narrow_word}
 use Rattle.pi_machine.specs.Rows.Numbers.{unary_value}
 use Rattle.pi_machine.specs.Sound.{IsSoundValue, FewBytesAreShort}
 use Rattle.pi_model.specs.Values.{Instance, Array, Text}
@@ -154,7 +154,7 @@ unary_small things IntToByte n e = byte_small n
 unary_small things IntToChar n e = let m : n % 2 ^ 16 < 2 ^ 16 = wrapped 16 n in omega (arith, m)
 unary_small things IntToShort n e = short_small n
 
-pub narrowed_small : (k : Access) (n : ℕ) → n < 2 ^ 32 → narrowed k n < 2 ^ 32
+pub narrowed_small : (k : Access) (n : ℕ) → n < 2 ^ 32 → narrow_word k n < 2 ^ 32
 narrowed_small access.Plain n e = e
 narrowed_small access.Wide n e = e
 narrowed_small access.Ref n e = e

@@ -79,9 +79,9 @@ abbrev pub changed_at : {A : Type 0} → (A → A) → ℕ → List A → List A
 changed_at change i xs = put_changed change i xs (slice_get xs i)
 
 -- the stack without its top
-abbrev pub popped : List Entry → List Entry
-popped [] = []
-popped (e ∷ below) = below
+abbrev pub stack_below : List Entry → List Entry
+stack_below [] = []
+stack_below (e ∷ below) = below
 
 -- the stack with its top changed, if that is a frame, or if that is a record
 abbrev pub on_frame : (Frame → Frame) → List Entry → List Entry
@@ -100,8 +100,8 @@ abbrev pub with_register : ℕ → Value → Frame → Frame
 with_register a v f = record f { registers = slice_set f.registers a v }
 
 -- a frame that goes on at an address
-abbrev pub jumped : ℕ → Frame → Frame
-jumped to f = record f { at = to }
+abbrev pub frame_at : ℕ → Frame → Frame
+frame_at to f = record f { at = to }
 
 -- every form of a call has three units
 abbrev pub past_call : Frame → Frame
@@ -122,9 +122,9 @@ do_deed (CallNative m) s = s
 do_deed (Print bytes) s = record s { output = s.output ++ bytes }
 do_deed Start s = record s { started = true }
 do_deed (Push e) s = record s { stack = e ∷ s.stack }
-do_deed Pop s = record s { stack = popped s.stack }
+do_deed Pop s = record s { stack = stack_below s.stack }
 do_deed (SetReg a v) s = record s { stack = on_frame (with_register a v) s.stack }
-do_deed (Jump to) s = record s { stack = on_frame (jumped to) s.stack }
+do_deed (Jump to) s = record s { stack = on_frame (frame_at to) s.stack }
 do_deed GoOn s = record s { stack = on_frame past_call s.stack }
 do_deed (SetPhase phase) s = record s { stack = on_record phase s.stack }
 do_deed (Pend r) s = record s { pending = Some r }

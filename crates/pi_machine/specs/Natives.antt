@@ -195,9 +195,9 @@ fits_component p s ty (High n) = true
 fits_component p s ty (Long n) = true
 
 -- the values before the first that does not fit
-abbrev pub fitting : Program → State → List ℕ → List Value → List Value
-fitting p s ty [] = []
-fitting p s ty (v ∷ vs) = if fits_component p s ty v then v ∷ fitting p s ty vs else []
+abbrev pub fitting_front : Program → State → List ℕ → List Value → List Value
+fitting_front p s ty [] = []
+fitting_front p s ty (v ∷ vs) = if fits_component p s ty v then v ∷ fitting_front p s ty vs else []
 
 -- a copy ends well where all fitted
 abbrev pub ends_copy : Bool → List Deed → Outcome
@@ -207,8 +207,8 @@ ends_copy false deeds = Fails deeds ArrayStore
 -- elements of one array go into another
 abbrev pub copies_items : Program → State → ℕ → ℕ → ℕ → ℕ → List ℕ → List Value → Outcome
 copies_items p s from from_at to to_at ty items =
-    ends_copy (length (fitting p s ty items) == length items)
-    (Reads from ∷ Writes to ∷ sees_items from from_at items ++ sets_items to to_at (fitting p s ty items))
+    ends_copy (length (fitting_front p s ty items) == length items)
+    (Reads from ∷ Writes to ∷ sees_items from from_at items ++ sets_items to to_at (fitting_front p s ty items))
 
 -- the components of two arrays are both references or the same primitive
 abbrev pub same_components : List ℕ → List ℕ → Bool

@@ -55,15 +55,15 @@ abbrev pub register_of : Frame → ℕ → Option Value
 register_of f a = slice_get f.registers a
 
 -- a value before others, where all are there
-abbrev pub joined : Option Value → Option (List Value) → Option (List Value)
-joined None rest = None
-joined (Some v) None = None
-joined (Some v) (Some vs) = Some (v ∷ vs)
+abbrev pub value_list : Option Value → Option (List Value) → Option (List Value)
+value_list None rest = None
+value_list (Some v) None = None
+value_list (Some v) (Some vs) = Some (v ∷ vs)
 
 -- the values of registers in order, where the frame has them all
 abbrev pub registers_of : Frame → List ℕ → Option (List Value)
 registers_of f [] = Some []
-registers_of f (a ∷ others) = joined (register_of f a) (registers_of f others)
+registers_of f (a ∷ others) = value_list (register_of f a) (registers_of f others)
 
 -- go on with the value of a kind at a register, which for a long is two registers
 abbrev pub with_operand : State → Frame → Kind → ℕ → (Value → Deeds) → Deeds
@@ -128,19 +128,19 @@ fits_letter access.Short letter = letter == 83
 
 -- What a narrow field or element keeps of a word: its low 8 or 16 bits, extended by the sign for byte and short and by
 -- zeros for boolean and char. So a read gives what is kept.
-abbrev pub narrowed : Access → ℕ → ℕ
-narrowed access.Plain n = n
-narrowed access.Wide n = n
-narrowed access.Ref n = n
-narrowed access.Bool n = n % 2 ^ 8
-narrowed access.Byte n = sign_extension w8 8 n
-narrowed access.Char n = n % 2 ^ 16
-narrowed access.Short n = sign_extension w16 16 n
+abbrev pub narrow_word : Access → ℕ → ℕ
+narrow_word access.Plain n = n
+narrow_word access.Wide n = n
+narrow_word access.Ref n = n
+narrow_word access.Bool n = n % 2 ^ 8
+narrow_word access.Byte n = sign_extension w8 8 n
+narrow_word access.Char n = n % 2 ^ 16
+narrow_word access.Short n = sign_extension w16 16 n
 
 -- what a field or an element holds after a write of a value
-abbrev pub kept : Access → Value → Value
-kept k (Word n) = Word (narrowed k n)
-kept k (Low n) = Low n
-kept k (High n) = High n
-kept k (Long n) = Long n
-kept k (At r) = At r
+abbrev pub stored_value : Access → Value → Value
+stored_value k (Word n) = Word (narrow_word k n)
+stored_value k (Low n) = Low n
+stored_value k (High n) = High n
+stored_value k (Long n) = Long n
+stored_value k (At r) = At r

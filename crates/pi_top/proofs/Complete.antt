@@ -17,7 +17,7 @@ use Rattle.pi_duty.specs.Small.{is_small}
 use Rattle.pi_duty.specs.Shape.{small_chain, HasSmallClass, SmallHasClass}
 use Rattle.pi_duty.specs.Words.{LazyWords}
 use Rattle.pi_duty.specs.Command.{Command, Lazy}
-use Rattle.pi_duty.specs.Duty.{Owed, RunOwes, ProgramOwes, FileOwes, LengthOwes, LazyOwes, WordsOwe, ended, end_status, lazy_setting, most_bytes}
+use Rattle.pi_duty.specs.Duty.{Owed, RunOwes, ProgramOwes, FileOwes, LengthOwes, LazyOwes, WordsOwe, owed_of_run, end_status, lazy_setting, most_bytes}
 use Rattle.pi_top.specs.declared.plain.run.RunEnd.TheVariants.{Returned, Limited, OutFault}
 use Rattle.pi_top.specs.declared.outcome.Outcome.{Outcome}
 use Rattle.pi_top.specs.declared.outcome.Outcome.TheVariants as outcome
@@ -65,7 +65,7 @@ lazy_owed l (Some other) file p o is within kept said small h =
     let of_program : FileOwes l (broken_rule file) p o = subst (λ (q : Program). FileOwes l (broken_rule file) q o) (sym said) of_file in
     by_size (is_small l.main p) l p o small (by_rule l (broken_rule file) p o kept of_program)
 
-run_owed : (p : Program) (text : List ℕ) (steps : ℕ) (main : Option ℕ) (method : ℕ) (o : Owed) → main ≡ Some method → main_of p text ≡ Some method → RunOwes p steps main o → (f : Finish) × (RunEnds p text steps f × (o ≡ ended p f))
+run_owed : (p : Program) (text : List ℕ) (steps : ℕ) (main : Option ℕ) (method : ℕ) (o : Owed) → main ≡ Some method → main_of p text ≡ Some method → RunOwes p steps main o → (f : Finish) × (RunEnds p text steps f × (o ≡ owed_of_run p f))
 run_owed p text steps None method o is found h = absurd (cc)
 run_owed p text steps (Some m) method o is found h =
     let same : m ≡ method = cc in
@@ -91,7 +91,7 @@ module _ (law : SmallHasClass) (store store_now : StoreView) (command : Option C
       subst (HasSmallClass call.words.main) (sym call.said) (law call.words.main call.file call.kept call.within small)
 
   -- what a small call owes is the end of a run
-  owed_run : (o : Owed) → OwesOver store command o → (f : Finish) × (RunEnds call.program call.words.main call.words.steps f × (o ≡ ended call.program f))
+  owed_run : (o : Owed) → OwesOver store command o → (f : Finish) × (RunEnds call.program call.words.main call.words.steps f × (o ≡ owed_of_run call.program f))
   owed_run o due =
       let over : WordsOwe command store.contents o = subst (λ (c : Contents). WordsOwe command c o) (due.as_shown call.shows) due.owes in
       let method : (m : ℕ) × (main_of call.program call.words.main ≡ Some m) = small_main call.words.main call.program has_class in
@@ -102,7 +102,7 @@ module _ (law : SmallHasClass) (store store_now : StoreView) (command : Option C
 
   ends_as : (status : Status) (o : Owed) → OwesOver store command o → o.status ≡ status → IsTrue (is_owed status) → Runs status
   ends_as status o due has owed =
-      let r : (f : Finish) × (RunEnds call.program call.words.main call.words.steps f × (o ≡ ended call.program f)) = owed_run o due in
+      let r : (f : Finish) × (RunEnds call.program call.words.main call.words.steps f × (o ≡ owed_of_run call.program f)) = owed_run o due in
       let same : status ≡ end_status r.0.end = sym has ∙ ap (λ (x : Owed). x.status) r.1.1 in
       record {
         finish = r.0;

@@ -3,7 +3,7 @@ use Rattle.std.proofs.Common.{◌≡◌, true, false, [], ◌∷◌, codes, refl
 use Rattle.pi_base.specs.declared.status.Status.TheVariants.{Done, Missing, WriteFault, OutFault, Memory, NotBuilt, Asm}
 use Rattle.pi_base.specs.Outside.{no_cause}
 use Rattle.pi_duty.specs.Lines.{not_built_line}
-use Rattle.pi_duty.specs.Duty.{Owed, refused}
+use Rattle.pi_duty.specs.Duty.{Owed, refusal}
 use Rattle.pi_top.specs.Statuses.{may_come, status_causes}
 use Rattle.pi_top.specs.Obeys.{is_as_owed}
 
@@ -25,10 +25,10 @@ none_refused = refl
 stops_run : is_as_owed returned OutFault ≡ true
 stops_run = refl
 
-stops_no_refusal : is_as_owed (refused NotBuilt not_built_line) OutFault ≡ false
+stops_no_refusal : is_as_owed (refusal NotBuilt not_built_line) OutFault ≡ false
 stops_no_refusal = refl
 
-wants : is_as_owed (refused NotBuilt not_built_line) Memory ≡ true
+wants : is_as_owed (refusal NotBuilt not_built_line) Memory ≡ true
 wants = refl
 
 -- a refused write may stop what has a write, and nothing else

@@ -25,7 +25,7 @@ use Rattle.pi_machine.specs.Ends.{End, Finish, EndsWith}
 use Rattle.pi_duty.specs.Words.{LazyWords}
 use Rattle.pi_duty.specs.Command.{Command, Lazy}
 use Rattle.pi_duty.specs.Lines.{usage_line, missing_line, dex_line, made_line, too_large_line, not_built_line}
-use Rattle.pi_duty.specs.Duty.{Owed, RunOwes, ProgramOwes, FileOwes, LengthOwes, LazyOwes, ended, end_status, end_lines, lazy_setting, most_bytes, refused}
+use Rattle.pi_duty.specs.Duty.{Owed, RunOwes, ProgramOwes, FileOwes, LengthOwes, LazyOwes, owed_of_run, end_status, end_lines, lazy_setting, most_bytes, refusal}
 use Rattle.pi_top.specs.declared.plain.run.RunEnd.{RunEnd}
 use Rattle.pi_top.specs.declared.plain.run.RunEnd.TheVariants.{Returned, Limited, OutFault}
 use Rattle.pi_top.specs.declared.file.fault.FileFault.{FileFault}
@@ -36,18 +36,18 @@ use Rattle.pi_top.specs.SmallCall.{RunEnds}
 use Rattle.pi_top.specs.Run.{AnswersRun}
 use Rattle.pi_top.specs.Outcome.{Gives, EndGives, FileGives, NoWrite}
 
-run_owes : (p : Program) (steps : ℕ) (main : Option ℕ) (method : ℕ) (f : Finish) → main ≡ Some method → EndsWith p (lazy_setting steps) method [] f → RunOwes p steps main (ended p f)
+run_owes : (p : Program) (steps : ℕ) (main : Option ℕ) (method : ℕ) (f : Finish) → main ≡ Some method → EndsWith p (lazy_setting steps) method [] f → RunOwes p steps main (owed_of_run p f)
 run_owes p steps None method f is h = absurd (cc)
 run_owes p steps (Some m) method f is h =
     let e : method ≡ m = cc in
     (f, (subst (λ k. EndsWith p (lazy_setting steps) k [] f) e h, refl))
 
 -- a small program owes what its run ends with, and another a refusal
-program_owes : (small : Bool) (l : LazyWords) (p : Program) (f : Finish) → small ≡ true → RunEnds p l.main l.steps f → ProgramOwes small l p (ended p f)
+program_owes : (small : Bool) (l : LazyWords) (p : Program) (f : Finish) → small ≡ true → RunEnds p l.main l.steps f → ProgramOwes small l p (owed_of_run p f)
 program_owes true l p f is h = run_owes p l.steps (main_of p l.main) h.method f h.found h.ends
 program_owes false l p f is h = absurd (cc)
 
-other_owes : (small : Bool) (l : LazyWords) (p : Program) → small ≡ false → ProgramOwes small l p (refused statuses.NotBuilt not_built_line)
+other_owes : (small : Bool) (l : LazyWords) (p : Program) → small ≡ false → ProgramOwes small l p (refusal statuses.NotBuilt not_built_line)
 other_owes false l p is = refl
 other_owes true l p is = absurd (cc)
 
@@ -56,11 +56,11 @@ kept_owes : (l : LazyWords) (broken : Option rules.Broken) (p : Program) (o : Ow
 kept_owes l None p o is h = h
 kept_owes l (Some b) p o is h = absurd (cc)
 
-broken_owes : (l : LazyWords) (broken : Option rules.Broken) (p : Program) (b : rules.Broken) → broken ≡ Some b → FileOwes l broken p (refused statuses.Dex (dex_line l.file b.rule b.at))
+broken_owes : (l : LazyWords) (broken : Option rules.Broken) (p : Program) (b : rules.Broken) → broken ≡ Some b → FileOwes l broken p (refusal statuses.Dex (dex_line l.file b.rule b.at))
 broken_owes l None p b is = absurd (cc)
 broken_owes l (Some x) p b is =
     let same : x ≡ b = cc in
-    ap (λ (y : rules.Broken). refused statuses.Dex (dex_line l.file y.rule y.at)) (sym same)
+    ap (λ (y : rules.Broken). refusal statuses.Dex (dex_line l.file y.rule y.at)) (sym same)
 
 by_length : (long : Bool) (l : LazyWords) (file : List ℕ) (o : Owed) → long ≡ false → FileOwes l (broken_rule file) (with_said core_program file) o → LengthOwes long l file o
 by_length true l file o is h = absurd (cc)
@@ -72,12 +72,12 @@ short_owes l file o short h =
     let e : nat_lt most_bytes (length file) ≡ false = grind (arith, nat_tests) in
     by_length _ l file o e h
 
-long_length : (long : Bool) (l : LazyWords) (file : List ℕ) → long ≡ true → LengthOwes long l file (refused statuses.TooLarge (too_large_line l.file))
+long_length : (long : Bool) (l : LazyWords) (file : List ℕ) → long ≡ true → LengthOwes long l file (refusal statuses.TooLarge (too_large_line l.file))
 long_length true l file is = refl
 long_length false l file is = absurd (cc)
 
 -- and one past the limit a refusal
-long_owes : (l : LazyWords) (file : List ℕ) → most_bytes < length file → LazyOwes l (Some file) (refused statuses.TooLarge (too_large_line l.file))
+long_owes : (l : LazyWords) (file : List ℕ) → most_bytes < length file → LazyOwes l (Some file) (refusal statuses.TooLarge (too_large_line l.file))
 long_owes l file long =
     let e : nat_lt most_bytes (length file) ≡ true = grind (arith, nat_tests) in
     long_length _ l file e
@@ -91,9 +91,9 @@ run_status ends.HeapLimit = refl
 run_status ends.FrameLimit = refl
 
 -- what the answer of a run says of what is owed
-end_gives : (owes : Owed → Type 0) (p : Program) (end : RunEnd) (f : Finish) (before now : SinkView) → owes (ended p f) → AnswersRun end f before now → EndGives owes NoWrite end before now
+end_gives : (owes : Owed → Type 0) (p : Program) (end : RunEnd) (f : Finish) (before now : SinkView) → owes (owed_of_run p f) → AnswersRun end f before now → EndGives owes NoWrite end before now
 end_gives owes p (Returned n) f before now due a = record {
-  owed = ended p f;
+  owed = owed_of_run p f;
   due = due;
   has_status = ap end_status a.0;
   made = refl;
@@ -101,14 +101,14 @@ end_gives owes p (Returned n) f before now due a = record {
   told = ap (λ e. end_lines p e ++ made_line f.steps) a.0 ∙ ap made_line a.1;
 }
 end_gives owes p (Limited n) f before now due a = record {
-  owed = ended p f;
+  owed = owed_of_run p f;
   due = due;
   has_status = ap end_status a.0;
   made = refl;
   printed = a.2;
   told = ap (λ e. end_lines p e ++ made_line f.steps) a.0 ∙ ap (λ k. codes "limit steps\n" ++ made_line k) a.1;
 }
-end_gives owes p OutFault f before now due a = record { owed = ended p f; due = due; of_run = run_status f.end; begun = a }
+end_gives owes p OutFault f before now due a = record { owed = owed_of_run p f; due = due; of_run = run_status f.end; begun = a }
 
 -- a file that says a program behind the first file owes what that program does
 said_owes : (l : LazyWords) (file : List ℕ) (p : Program) (o : Owed) → length file ≤ most_bytes → SaysNext core_program file p → ProgramOwes (is_small l.main p) l p o → LazyOwes l (Some file) o
@@ -127,9 +127,9 @@ run_gives name main text file steps p end before now is short says small ends =
     end_gives (LazyOwes l (Some file)) p end ends.0 before now (said_owes l file p _ short says (program_owes (is_small main p) l p ends.0 small' h)) ends.1.1
 
 -- a refusal is a line and nothing else
-refused_gives : (owes : Owed → Type 0) (status : Status) (line : List ℕ) (before : SinkView) → owes (refused status line) → Gives owes status NoWrite line before before
+refused_gives : (owes : Owed → Type 0) (status : Status) (line : List ℕ) (before : SinkView) → owes (refusal status line) → Gives owes status NoWrite line before before
 refused_gives owes status line before due = record {
-  owed = refused status line;
+  owed = refusal status line;
   due = due;
   has_status = refl;
   made = refl;
@@ -180,14 +180,14 @@ longer : (n : ℕ) → (xs : List ℕ) × (n < length xs)
 longer zero = (0 ∷ [], omega arith)
 longer (suc n) = (0 ∷ (longer n).0, omega (arith, (longer n).1))
 
-large_owes : (l : LazyWords) (found : Option (List ℕ)) → IsSomeAnd found (λ file. most_bytes < length file) → LazyOwes l found (refused statuses.TooLarge (too_large_line l.file))
+large_owes : (l : LazyWords) (found : Option (List ℕ)) → IsSomeAnd found (λ file. most_bytes < length file) → LazyOwes l found (refusal statuses.TooLarge (too_large_line l.file))
 large_owes l None h = absurd h
 large_owes l (Some file) h = long_owes l file h
 
-large_over : (store : StoreView) (l : LazyWords) → (IsTrue store.shown → IsSomeAnd (store.contents l.file) (λ file. most_bytes < length file)) → OwesOver store (Some (Lazy l)) (refused statuses.TooLarge (too_large_line l.file))
+large_over : (store : StoreView) (l : LazyWords) → (IsTrue store.shown → IsSomeAnd (store.contents l.file) (λ file. most_bytes < length file)) → OwesOver store (Some (Lazy l)) (refusal statuses.TooLarge (too_large_line l.file))
 large_over store l h = by_shown store.shown refl
   where
-    by_shown : (shown : Bool) → store.shown ≡ shown → OwesOver store (Some (Lazy l)) (refused statuses.TooLarge (too_large_line l.file))
+    by_shown : (shown : Bool) → store.shown ≡ shown → OwesOver store (Some (Lazy l)) (refusal statuses.TooLarge (too_large_line l.file))
     by_shown true is = record { contents = store.contents; as_shown = λ _. refl; owes = large_owes l (store.contents l.file) (h is) }
     by_shown false is =
         let other : (xs : List ℕ) × (most_bytes < length xs) = longer most_bytes in
@@ -221,9 +221,9 @@ module _ (store store_now : StoreView) (keeps : Keeps store store_now) where
   abbrev Made : List Write → Type 0
   Made writes = MakesAll writes store store_now
 
-  refused_made : (owes : Owed → Type 0) (status : Status) (line : List ℕ) (before : SinkView) → owes (refused status line) → Gives owes status Made line before before
+  refused_made : (owes : Owed → Type 0) (status : Status) (line : List ℕ) (before : SinkView) → owes (refusal status line) → Gives owes status Made line before before
   refused_made owes status line before due = record {
-    owed = refused status line;
+    owed = refusal status line;
     due = due;
     has_status = refl;
     made = keeps;

@@ -21,8 +21,8 @@ use Rattle.pi_machine.specs.Operands.{Deeds, registers_of}
 use Rattle.pi_machine.specs.Throwing.{throws, next_made, is_of_type}
 use Rattle.pi_machine.specs.Codes.{code_of}
 use Rattle.pi_machine.specs.Natives.{Native, Outcome, Gives, Fails, native_does}
-use Rattle.pi_machine.specs.Rows.Calls.{argument_kinds, arguments_fit, entry_frame, calls_frame, native_ends, native_at, is_abstract_method, enters_method, call_row, dispatch_from, receiver_class, virtual_row, code_class, interface_row, with_receiver, invoked, with_arguments, invoke_row}
-use Rattle.pi_machine.proofs.RowDeeds.Words.{Does, RowFacts, ValuedLists, ValuedCalls, stuck, these, either, if_found, by_ref, registers_values, thrown}
+use Rattle.pi_machine.specs.Rows.Calls.{argument_kinds, arguments_fit, entry_frame, calls_frame, native_ends, native_at, is_abstract_method, enters_method, call_row, dispatch_from, receiver_class, virtual_row, code_class, interface_row, with_receiver, invocation, with_arguments, invoke_row}
+use Rattle.pi_machine.proofs.RowDeeds.Words.{Does, RowFacts, RowLists, RowCalls, stuck, these, either, if_found, by_ref, registers_values, thrown}
 use Rattle.pi_machine.proofs.RowDeeds.Natives.{AllBefore, native_deeds}
 
 -- the registers of a new frame: zeros and the arguments
@@ -39,7 +39,7 @@ entry_values V zero_is m (Some code) args frame x e = by_count (length args == c
 
 module _ {p : Program} {s : State} {f : Frame} {V : Option Ref → Value → Type 0} {O : Object → Type 0} {U : List ℕ → Type 0}
     {Ends : Option Ref → List Deed → Type 0} {After : ℕ → List Deed → Type 0} {Inner All : List Deed → Type 0}
-    (g : RowFacts p s f V O U) (k : ValuedLists p s f V O Ends After All) (calls : ValuedCalls p s f V O Ends After Inner All) where
+    (g : RowFacts p s f V O U) (k : RowLists p s f V O Ends After All) (calls : RowCalls p s f V O Ends After Inner All) where
   after_native : (m : ℕ) (deeds : List Deed) (class : Known) → ((c : ℕ) → Inner (deeds ++ Make (new_instance p c) ∷ Pend (next_made s) ∷ []))
       → Does All (option_map (λ ds. CallNative m ∷ deeds ++ ds) (throws p s class))
   after_native m deeds class a = by_class (class_named p (descriptor_of class))
@@ -87,7 +87,7 @@ module _ {p : Program} {s : State} {f : Frame} {V : Option Ref → Value → Typ
   by_receiver (v ∷ vs) h = by_ref s (Some v) (thrown g k NullPointer) (λ r e. h r)
 
   invoked_deeds : (units : ℕ) (how : How) (m : MethodRef) (args : List Value) (i : Member) → EachOf (V None) args
-      → Does All (invoked p s f units how m args i)
+      → Does All (invocation p s f units how m args i)
   invoked_deeds units Static m args i x = call_deeds units args (Some i) x
   invoked_deeds units Direct m args i x = by_receiver args (λ r. call_deeds units args (Some i) x)
   invoked_deeds units Super m args i x =

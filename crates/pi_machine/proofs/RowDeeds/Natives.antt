@@ -12,8 +12,8 @@ use Rattle.pi_machine.specs.Throwing.{next_made}
 use Rattle.pi_machine.specs.Sound.{EachOf}
 use Rattle.pi_model.specs.Fields.{new_instance}
 use Rattle.pi_machine.specs.Objects.{Shape, OfArray, shape_at, object_at, item_in, items_in}
-use Rattle.pi_machine.specs.Natives.{Native, PrintInt, PrintLong, PrintText, Clone, GetClass, StringLength, CharAt, StringEquals, Concat, ArrayCopy, OfLong, OfChars, Outcome, Gives, Fails, gives_word, gives_text, is_index, is_range, units_in, component, sees_items, sets_items, may_clone, copies, clone_does, type_name_of, char_at_does, same_units, equals_does, concat_does, fits_component, fitting, ends_copy, copies_items, same_components, copies_between, array_copy_does, words_in, of_chars_does, print_text_does, native_does}
-use Rattle.pi_machine.proofs.RowDeeds.Words.{RowFacts, ValuedLists, OnHeld, goes_on, pends_new}
+use Rattle.pi_machine.specs.Natives.{Native, PrintInt, PrintLong, PrintText, Clone, GetClass, StringLength, CharAt, StringEquals, Concat, ArrayCopy, OfLong, OfChars, Outcome, Gives, Fails, gives_word, gives_text, is_index, is_range, units_in, component, sees_items, sets_items, may_clone, copies, clone_does, type_name_of, char_at_does, same_units, equals_does, concat_does, fits_component, fitting_front, ends_copy, copies_items, same_components, copies_between, array_copy_does, words_in, of_chars_does, print_text_does, native_does}
+use Rattle.pi_machine.proofs.RowDeeds.Words.{RowFacts, RowLists, OnHeld, goes_on, pends_new}
 use Rattle.pi_machine.proofs.RowDeeds.Objects.{sets_items_deeds, truth_small}
 
 -- the deeds of a native as the end of its step: what it gives is held and the run goes on, or a throwable is made and pending
@@ -106,12 +106,12 @@ stands_first p s n at v vs a =
     subst (λ (i : ℕ). item_in (object_at p s (Num n)) i ≡ Some v) same (a.stand 0 v refl)
 
 -- those that fit are no more than there are, and a range that is inside ends inside
-fitting_length : (p : Program) (s : State) (ty : List ℕ) (vs : List Value) → length (fitting p s ty vs) ≤ length vs
+fitting_length : (p : Program) (s : State) (ty : List ℕ) (vs : List Value) → length (fitting_front p s ty vs) ≤ length vs
 fitting_length p s ty [] = omega arith
 fitting_length p s ty (v ∷ vs) = by_fit (fits_component p s ty v) (fitting_length p s ty vs)
   where
-    by_fit : (b : Bool) → length (fitting p s ty vs) ≤ length vs
-        → length (if b then v ∷ fitting p s ty vs else []) ≤ length (v ∷ vs)
+    by_fit : (b : Bool) → length (fitting_front p s ty vs) ≤ length vs
+        → length (if b then v ∷ fitting_front p s ty vs else []) ≤ length (v ∷ vs)
     by_fit true h = omega arith
     by_fit false h = omega arith
 
@@ -132,17 +132,17 @@ module _ {p : Program} {s : State} {f : Frame} {V : Option Ref → Value → Typ
   stands_values n at [] a = tt
   stands_values n at (v ∷ vs) a = (g.item (Num n) at v (stands_first p s n at v vs a), stands_values n (at + 1) vs (stands_on p s n at v vs a))
 
-  fitting_values : (ty : List ℕ) (vs : List Value) → EachOf (V None) vs → EachOf (V None) (fitting p s ty vs)
+  fitting_values : (ty : List ℕ) (vs : List Value) → EachOf (V None) vs → EachOf (V None) (fitting_front p s ty vs)
   fitting_values ty [] x = tt
   fitting_values ty (v ∷ vs) x = by_fit (fits_component p s ty v) (fitting_values ty vs x.1)
     where
-      by_fit : (b : Bool) → EachOf (V None) (fitting p s ty vs) → EachOf (V None) (if b then v ∷ fitting p s ty vs else [])
+      by_fit : (b : Bool) → EachOf (V None) (fitting_front p s ty vs) → EachOf (V None) (if b then v ∷ fitting_front p s ty vs else [])
       by_fit true h = (x.0, h)
       by_fit false h = tt
 
 module _ {p : Program} {s : State} {f : Frame} {V : Option Ref → Value → Type 0} {O : Object → Type 0} {U : List ℕ → Type 0}
     {Ends : Option Ref → List Deed → Type 0} {After : ℕ → List Deed → Type 0} {All : List Deed → Type 0}
-    (g : RowFacts p s f V O U) (k : ValuedLists p s f V O Ends After All) where
+    (g : RowFacts p s f V O U) (k : RowLists p s f V O Ends After All) where
   -- the ends of a native
   holds_and_goes : (new : Option Ref) (held : Held) (units : ℕ) → OnHeld (V new) held → Ends new (Hold held ∷ go_on f units)
   holds_and_goes new held units x = k.hold new held (go_on f units) x (goes_on g k new units)
@@ -206,12 +206,12 @@ module _ {p : Program} {s : State} {f : Frame} {V : Option Ref → Value → Typ
       → StandAt p s from from_at items → shape_at p s (Num to) ≡ Some (OfArray uy m) → length items ≤ count → to_at + count ≤ m
       → AllBefore p s f All (Some (copies_items p s from from_at to to_at ty items))
   copies_items_deeds from from_at to to_at count uy m ty items a e few inside =
-      let fewer : length (fitting p s ty items) ≤ length items = fitting_length p s ty items in
-      let sets : List Deed = sets_items to to_at (fitting p s ty items) in
-      ends_copy_deeds to (length (fitting p s ty items) == length items) from (sees_items from from_at items ++ sets) (λ others h.
+      let fewer : length (fitting_front p s ty items) ≤ length items = fitting_length p s ty items in
+      let sets : List Deed = sets_items to to_at (fitting_front p s ty items) in
+      ends_copy_deeds to (length (fitting_front p s ty items) == length items) from (sees_items from from_at items ++ sets) (λ others h.
       subst (After to) (sym (append_assoc (sees_items from from_at items) sets others))
       (sees_items_then to from items from_at (sets ++ others) a
-      (sets_items_deeds g k to uy m e (fitting p s ty items) to_at others (omega arith) (fitting_values g ty items (stands_values g from from_at items a)) h)))
+      (sets_items_deeds g k to uy m e (fitting_front p s ty items) to_at others (omega arith) (fitting_values g ty items (stands_values g from from_at items a)) h)))
 
   copies_between_deeds : (r : Ref) (from : ℕ) (q : Ref) (to count : ℕ) (a b : Option Shape) → shape_at p s q ≡ b
       → AllBefore p s f All (copies_between p s r from q to count a b)

@@ -20,9 +20,9 @@ use Rattle.pi_machine.specs.State.{State, Frame, Held, Nothing, Result, Thrown}
 use Rattle.pi_machine.specs.Deeds.{Deed, Saw, OfHeld, Touch, Hold, Jump, GoOn}
 use Rattle.pi_machine.specs.Operands.{Deeds, register_of}
 use Rattle.pi_machine.specs.Rows.Registers.{move_row, move_result_row, move_exception_row, returns, return_row, const_string_row, const_class_row}
-use Rattle.pi_machine.specs.Rows.Numbers.{takes_long, unary_value, with_number, unary_row, result_or_throw, is_shift, binary_row, binary_literal_row, compare_long_row, branch, compared, branch_by, if_row, if_zero_row, to_case, switch_row}
+use Rattle.pi_machine.specs.Rows.Numbers.{takes_long, unary_value, with_number, unary_row, result_or_throw, is_shift, binary_row, binary_literal_row, compare_long_row, branch, comparison, branch_by, if_row, if_zero_row, to_case, switch_row}
 use Rattle.pi_machine.proofs.Truths.{some_same}
-use Rattle.pi_machine.proofs.RowDeeds.Words.{Does, RowFacts, ValuedLists, OnHeld, number, stuck, these, before, by_word, by_long, by_operand, by_kind, goes, sets_last, sets, thrown}
+use Rattle.pi_machine.proofs.RowDeeds.Words.{Does, RowFacts, RowLists, OnHeld, number, stuck, these, before, by_word, by_long, by_operand, by_kind, goes, sets_last, sets, thrown}
 
 mapped : (V : Value → Type 0) (make : ℕ → Value) (o : Option ℕ) → ((r : ℕ) → o ≡ Some r → V (make r)) → (w : Value) → option_map make o ≡ Some w → V w
 mapped V make None h w e = cc
@@ -39,7 +39,7 @@ comparison_small m n = by_order (int_lt (cast_signed w64 m) (cast_signed w64 n))
 
 module _ {p : Program} {s : State} {f : Frame} {V : Option Ref → Value → Type 0} {O : Object → Type 0} {U : List ℕ → Type 0}
     {Ends : Option Ref → List Deed → Type 0} {After : ℕ → List Deed → Type 0} {All : List Deed → Type 0}
-    (g : RowFacts p s f V O U) (k : ValuedLists p s f V O Ends After All) where
+    (g : RowFacts p s f V O U) (k : RowLists p s f V O Ends After All) where
   -- registers
   pub move_deeds : (units : ℕ) (kd : Kind) (a b : ℕ) → Does All (move_row s f units kd a b)
   move_deeds units kd a b = by_operand g kd b (λ v x. sets g k units a v x)
@@ -112,10 +112,10 @@ module _ {p : Program} {s : State} {f : Frame} {V : Option Ref → Value → Typ
   branch_deeds units to (Some taken) = branching units to taken
 
   pub if_deeds : (units : ℕ) (cond : Cond) (a b to : ℕ) → Does All (if_row s f units cond a b to)
-  if_deeds units cond a b to = branch_deeds units to (compared s cond (register_of f a) (register_of f b))
+  if_deeds units cond a b to = branch_deeds units to (comparison s cond (register_of f a) (register_of f b))
 
   pub if_zero_deeds : (units : ℕ) (cond : Cond) (a to : ℕ) → Does All (if_zero_row s f units cond a to)
-  if_zero_deeds units cond a to = branch_deeds units to (compared s cond (register_of f a) (Some (Word 0)))
+  if_zero_deeds units cond a to = branch_deeds units to (comparison s cond (register_of f a) (Some (Word 0)))
 
   case_deeds : (units : ℕ) (c : Option Case) → Does All (to_case f units c)
   case_deeds units None = goes g k units

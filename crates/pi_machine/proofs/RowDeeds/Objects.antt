@@ -17,15 +17,15 @@ use Rattle.pi_model.specs.Values.{Ref, Num, Value, Word, At, Object, Array}
 use Rattle.pi_machine.specs.State.{State, Frame, Result}
 use Rattle.pi_machine.specs.Deeds.{Deed, Make, Saw, OfStatic, OfField, OfItem, Reads, Writes, SetField, SetItem, Pend}
 use Rattle.pi_machine.specs.Objects.{Shape, OfInstance, OfArray, shape_at, object_at, field_in, item_in}
-use Rattle.pi_machine.specs.Operands.{Deeds, register_of, registers_of, go_on, kind_of, kept, fits_letter}
+use Rattle.pi_machine.specs.Operands.{Deeds, register_of, registers_of, go_on, kind_of, stored_value, fits_letter}
 use Rattle.pi_machine.specs.Throwing.{next_made, is_of_type}
 use Rattle.pi_machine.specs.Natives.{truth, is_index, sets_items}
 use Rattle.pi_machine.specs.Rows.Objects.{new_instance_row, monitor_row, check_cast_row, instance_of_row, throw_row, with_instance, iget_row, iput_row, sget_row, sput_row}
-use Rattle.pi_machine.specs.Rows.Arrays.{with_array, is_array, item_letter, first_item, item_value, fills, may_store, array_length_row, new_array_row, filled, filled_row, fill_array_row, aget_row, aput_row}
+use Rattle.pi_machine.specs.Rows.Arrays.{with_array, is_array, item_letter, first_item, item_value, fills, may_store, array_length_row, new_array_row, filled_array, filled_row, fill_array_row, aget_row, aput_row}
 use Rattle.pi_machine.specs.Sound.{EachOf}
 use Rattle.pi_machine.specs.StepLaws.{HasField}
 use Rattle.pi_machine.proofs.FieldNumbers.{found_field}
-use Rattle.pi_machine.proofs.RowDeeds.Words.{Does, RowFacts, ValuedLists, stuck, these, before, either, if_found, if_found_as, by_word, by_ref, by_operand, registers_values, registers_count, by_kind, either_is, goes_on, goes, sets_last, sets_new, sets, thrown}
+use Rattle.pi_machine.proofs.RowDeeds.Words.{Does, RowFacts, RowLists, stuck, these, before, either, if_found, if_found_as, by_word, by_ref, by_operand, registers_values, registers_count, by_kind, either_is, goes_on, goes, sets_last, sets_new, sets, thrown}
 
 -- an index within a length is below it
 pub index_within : (i n : ℕ) → is_index i n ≡ true → i < n
@@ -48,7 +48,7 @@ test_is a b e = not_false (a == b) e
 
 module _ {p : Program} {s : State} {f : Frame} {V : Option Ref → Value → Type 0} {O : Object → Type 0} {U : List ℕ → Type 0}
     {Ends : Option Ref → List Deed → Type 0} {After : ℕ → List Deed → Type 0} {All : List Deed → Type 0}
-    (g : RowFacts p s f V O U) (k : ValuedLists p s f V O Ends After All) where
+    (g : RowFacts p s f V O U) (k : RowLists p s f V O Ends After All) where
   -- objects
   pub new_instance_deeds : (units a : ℕ) (t : NameNo) → Does All (new_instance_row p s f units a t)
   new_instance_deeds units a t = if_found (class_of p t) (λ c.
@@ -88,8 +88,8 @@ module _ {p : Program} {s : State} {f : Frame} {V : Option Ref → Value → Typ
   pub iput_deeds : (units : ℕ) (access : Access) (a b : ℕ) (r : FieldRef) → Does All (iput_row p s f units access a b r)
   iput_deeds units access a b r = if_found (find_field p r) (λ i. by_operand g (kind_of access) a (λ v x.
       by_ref s (register_of f b) (thrown g k NullPointer) (λ o e. by_field o i (shape_at p s o) refl (λ n place there.
-      these (k.writes n (SetField n place (kept access v) ∷ go_on f units)
-      (k.set_field n place (kept access v) (go_on f units) there (g.kept access v x) (k.rest_then n (go_on f units) (goes_on g k None units))))))))
+      these (k.writes n (SetField n place (stored_value access v) ∷ go_on f units)
+      (k.set_field n place (stored_value access v) (go_on f units) there (g.stored_value access v x) (k.rest_then n (go_on f units) (goes_on g k None units))))))))
 
   pub sget_deeds : (units : ℕ) (access : Access) (a : ℕ) (r : FieldRef) → Does All (sget_row p s f units access a r)
   sget_deeds units access a r = if_found_as (find_field p r) (λ i found.
@@ -100,8 +100,8 @@ module _ {p : Program} {s : State} {f : Frame} {V : Option Ref → Value → Typ
   pub sput_deeds : (units : ℕ) (access : Access) (a : ℕ) (r : FieldRef) → Does All (sput_row p s f units access a r)
   sput_deeds units access a r = if_found_as (find_field p r) (λ i found. by_operand g (kind_of access) a (λ v x.
       either_is (nat_lt (field_no_of p i) (length s.statics))
-      (λ below. these (k.set_static i.class (field_no_of p i) (kept access v) (go_on f units) (found_field p r i found)
-      (ltb-true (field_no_of p i) (length s.statics) below) (g.kept access v x) (goes_on g k None units))) (λ past. stuck)))
+      (λ below. these (k.set_static i.class (field_no_of p i) (stored_value access v) (go_on f units) (found_field p r i found)
+      (ltb-true (field_no_of p i) (length s.statics) below) (g.stored_value access v x) (goes_on g k None units))) (λ past. stuck)))
 
   -- arrays
   by_array : (r : Ref) (shape : Option Shape) {go : ℕ → ℕ → ℕ → Deeds} → shape_at p s r ≡ shape
@@ -119,7 +119,7 @@ module _ {p : Program} {s : State} {f : Frame} {V : Option Ref → Value → Typ
       (λ ds h. k.make _ ds (g.zeros t.0 n (item_letter p t.0) (ltb-true n (2 ^ 31) few)) h) (sets_new g k units a))
       (λ many. thrown g k NegativeArraySize)))
 
-  filled_deeds : (units : ℕ) (t : NameNo) (values : List Value) → O (Array t.0 values) → Does All (filled p s f units t values)
+  filled_deeds : (units : ℕ) (t : NameNo) (values : List Value) → O (Array t.0 values) → Does All (filled_array p s f units t values)
   filled_deeds units t values x =
       either (is_array p t && list_all (fills s (item_letter p t.0)) values)
       (these (k.make (Array t.0 values) _ x
@@ -171,6 +171,6 @@ module _ {p : Program} {s : State} {f : Frame} {V : Option Ref → Value → Typ
       by_ref s (register_of f b) (thrown g k NullPointer) (λ r z. by_array r (shape_at p s r) refl (λ n ty items e.
       either (not (fits_letter access (item_letter p ty))) stuck
       (either_is (not (is_index i items)) (λ past. thrown g k ArrayIndexOutOfBounds) (λ within. either (may_store p s access ty v)
-      (these (k.writes n (SetItem n i (kept access v) ∷ go_on f units) (k.set_item n i (kept access v) (go_on f units)
-      (record { ty = ty; items = items; is = e; within = index_within i items (not_false (is_index i items) within) }) (g.kept access v x)
+      (these (k.writes n (SetItem n i (stored_value access v) ∷ go_on f units) (k.set_item n i (stored_value access v) (go_on f units)
+      (record { ty = ty; items = items; is = e; within = index_within i items (not_false (is_index i items) within) }) (g.stored_value access v x)
       (k.rest_then n (go_on f units) (goes_on g k None units))))) (thrown g k ArrayStore)))))))

@@ -14,10 +14,10 @@ use Rattle.pi_model.specs.declared.insn.Access.{Access}
 use Rattle.pi_model.specs.declared.insn.BinOp.{BinOp}
 use Rattle.pi_model.specs.declared.insn.UnOp.{UnOp}
 use Rattle.pi_model.specs.Arithmetic.{int_result, long_result}
-use Rattle.pi_machine.specs.State.{State, Frame, Call, Held, Nothing, Result, Thrown}
-use Rattle.pi_machine.specs.Deeds.{Look, OfStatic, Deed, Make, Touch, Saw, Reads, Writes, SetStatic, SetField, SetItem, CallNative, Print, Push, Pop, SetReg, Jump, GoOn, Pend, Hold}
+use Rattle.pi_machine.specs.State.{State, Frame, Call, Record, Held, Nothing, Result, Thrown}
+use Rattle.pi_machine.specs.Deeds.{Look, OfStatic, Deed, Make, Touch, Saw, Reads, Writes, SetStatic, SetStatus, SetField, SetItem, CallNative, Print, Start, Push, Pop, SetReg, Jump, GoOn, SetPhase, Pend, Unpend, Hold}
 use Rattle.pi_machine.specs.Objects.{OfArray, shape_at, object_at, field_in, item_in, names_thing}
-use Rattle.pi_machine.specs.Operands.{Deeds, first_do, with_word, with_long, with_ref, with_operand, of_kind, register_of, registers_of, joined, kept, set_word, set_long, set_value, set_and_go, go_on}
+use Rattle.pi_machine.specs.Operands.{Deeds, first_do, with_word, with_long, with_ref, with_operand, of_kind, register_of, registers_of, value_list, stored_value, set_word, set_long, set_value, set_and_go, go_on}
 use Rattle.pi_machine.specs.Printed.{long_text}
 use Rattle.pi_machine.specs.Natives.{units_in, words_in}
 use Rattle.pi_machine.specs.Rows.Numbers.{takes_long, unary_value}
@@ -35,34 +35,6 @@ OnDeeds Q (Some ds) = Q ds
 
 pub record Does (Q : List Deed → Type 0) (ds : Deeds) : Type 0 where
   pub each : OnDeeds Q ds
-
--- Properties of the lists of deeds that the row of a frame's instruction does, by what comes first. `All` is of whole lists,
--- `After n` of what follows the mark that thing n is written, and `Ends` of what ends a step: it makes, touches and writes
--- nothing. What is told as read stands so in the state, and what is written is there.
-pub record RowLists (p : Program) (s : State) (f : Frame) (Ends : List Deed → Type 0) (After : ℕ → List Deed → Type 0) (All : List Deed → Type 0) : Type 0 where
-  pub none : Ends []
-  pub push_call : (g : Frame) (ds : List Deed) → Ends ds → Ends (Push (Call g) ∷ ds)
-  pub pop : (ds : List Deed) → Ends ds → Ends (Pop ∷ ds)
-  pub set_reg : (a : ℕ) (v : Value) (ds : List Deed) → a < length f.registers → Ends ds → Ends (SetReg a v ∷ ds)
-  pub jump : (to : ℕ) (ds : List Deed) → Ends ds → Ends (Jump to ∷ ds)
-  pub past_call : (ds : List Deed) → Ends ds → Ends (GoOn ∷ ds)
-  pub pend : (r : Ref) (ds : List Deed) → Ends ds → Ends (Pend r ∷ ds)
-  pub hold : (h : Held) (ds : List Deed) → Ends ds → Ends (Hold h ∷ ds)
-  pub rest : (ds : List Deed) → Ends ds → All ds
-  pub make : (o : Object) (ds : List Deed) → Ends ds → All (Make o ∷ ds)
-  pub touch : (n : ℕ) (ds : List Deed) → Ends ds → All (Touch n ∷ ds)
-  pub saw : (look : Look) (ds : List Deed) → IsSeen p s look → reads_static (Saw look) ≡ false → All ds → All (Saw look ∷ ds)
-  pub saw_static : (c field : ℕ) (v : Value) (ds : List Deed) → IsSeen p s (OfStatic field v) → IsFieldOf p c field → Ends ds → All (Saw (OfStatic field v) ∷ ds)
-  pub reads : (n : ℕ) (ds : List Deed) → All ds → All (Reads n ∷ ds)
-  pub call_native : (m : ℕ) (ds : List Deed) → All ds → All (CallNative m ∷ ds)
-  pub print : (bytes : List ℕ) (ds : List Deed) → All ds → All (Print bytes ∷ ds)
-  pub set_static : (c field : ℕ) (v : Value) (ds : List Deed) → IsFieldOf p c field → field < length s.statics → Ends ds → All (SetStatic field v ∷ ds)
-  pub writes : (n : ℕ) (ds : List Deed) → After n ds → All (Writes n ∷ ds)
-  pub set_field : (n place : ℕ) (v : Value) (ds : List Deed) → HasField s n place → After n ds → After n (SetField n place v ∷ ds)
-  pub set_item : (n place : ℕ) (v : Value) (ds : List Deed) → HasItem s n place → After n ds → After n (SetItem n place v ∷ ds)
-  pub saw_then : (n : ℕ) (look : Look) (ds : List Deed) → IsSeen p s look → reads_static (Saw look) ≡ false → After n ds → After n (Saw look ∷ ds)
-  pub make_then : (n : ℕ) (o : Object) (ds : List Deed) → Ends ds → After n (Make o ∷ ds)
-  pub rest_then : (n : ℕ) (ds : List Deed) → Ends ds → After n ds
 
 -- a word, or a long
 abbrev pub number : Bool → ℕ → Value
@@ -91,7 +63,7 @@ pub record RowFacts (p : Program) (s : State) (f : Frame) (V : Option Ref → Va
   pub wide : (m n : ℕ) → V None (Low m) → V None (High n) → V None (Long (m + 2 ^ 32 * n))
   pub low : (new : Option Ref) (n : ℕ) → V new (Long n) → V new (Low (n % 2 ^ 32))
   pub high : (new : Option Ref) (n : ℕ) → V new (Long n) → V new (High (n / 2 ^ 32))
-  pub kept : (k : Access) (v : Value) → V None v → V None (kept k v)
+  pub stored_value : (k : Access) (v : Value) → V None v → V None (stored_value k v)
   pub int : (op : BinOp) (m n r : ℕ) → V None (Word m) → V None (Word n) → int_result op m n ≡ Some r → V None (Word r)
   pub long : (op : BinOp) (of_long : Bool) (m n r : ℕ) → V None (Long m) → V None (number of_long n) → long_result op m n ≡ Some r → V None (Long r)
   pub unary : (op : UnOp) (n : ℕ) → V None (number (takes_long op) n) → V None (unary_value op n)
@@ -105,8 +77,11 @@ pub record RowFacts (p : Program) (s : State) (f : Frame) (V : Option Ref → Va
   pub instance : (c : ℕ) → O (new_instance p c)
   pub zeros : (ty n letter : ℕ) → n < 2 ^ 31 → O (Array ty (replicate n (first_item letter)))
 
--- the same of lists of deeds with their values
-pub record ValuedLists (p : Program) (s : State) (f : Frame) (V : Option Ref → Value → Type 0) (O : Object → Type 0)
+-- Properties of the lists of deeds that the row of a frame's instruction does, by what comes first. `All` is of whole lists,
+-- `After n` of what follows the mark that thing n is written, and `Ends` of what ends a step: it makes, touches and writes
+-- nothing. What is told as read stands so in the state, and what is written is there. Values that are set have the property
+-- `V`, and objects that are made have `O`.
+pub record RowLists (p : Program) (s : State) (f : Frame) (V : Option Ref → Value → Type 0) (O : Object → Type 0)
     (Ends : Option Ref → List Deed → Type 0) (After : ℕ → List Deed → Type 0) (All : List Deed → Type 0) : Type 0 where
   pub none : (new : Option Ref) → Ends new []
   pub push_call : (new : Option Ref) (g : Frame) (ds : List Deed) → EachOf (V None) g.registers → Ends new ds → Ends new (Push (Call g) ∷ ds)
@@ -132,9 +107,9 @@ pub record ValuedLists (p : Program) (s : State) (f : Frame) (V : Option Ref →
   pub rest_then : (n : ℕ) (ds : List Deed) → Ends None ds → After n ds
 
 -- what follows the call of a native has a property of its own, `Inner`
-pub record ValuedCalls (p : Program) (s : State) (f : Frame) (V : Option Ref → Value → Type 0) (O : Object → Type 0)
+pub record RowCalls (p : Program) (s : State) (f : Frame) (V : Option Ref → Value → Type 0) (O : Object → Type 0)
     (Ends : Option Ref → List Deed → Type 0) (After : ℕ → List Deed → Type 0) (Inner All : List Deed → Type 0) : Type 0 where
-  pub inner : ValuedLists p s f V O Ends After Inner
+  pub inner : RowLists p s f V O Ends After Inner
   pub call_native : (m : ℕ) (ds : List Deed) → Inner ds → All (CallNative m ∷ ds)
 
 -- where nothing is asked of values
@@ -162,7 +137,7 @@ any_facts p s f = record {
   wide = λ m n x y. tt;
   low = λ new n x. tt;
   high = λ new n x. tt;
-  kept = λ k v x. tt;
+  stored_value = λ k v x. tt;
   int = λ op m n r x y e. tt;
   long = λ op b m n r x y e. tt;
   unary = λ op n x. tt;
@@ -177,61 +152,21 @@ any_facts p s f = record {
   zeros = λ ty n letter e. tt;
 }
 
-abbrev pub valued : {p : Program} {s : State} {f : Frame} {Ends : List Deed → Type 0} {After : ℕ → List Deed → Type 0} {All : List Deed → Type 0}
-    → RowLists p s f Ends After All → ValuedLists p s f AnyValue AnyObject (λ new. Ends) After All
-valued k = record {
-  none = λ new. k.none;
-  push_call = λ new g ds x h. k.push_call g ds h;
-  pop = λ new ds h. k.pop ds h;
-  set_reg = λ new a v ds e x h. k.set_reg a v ds e h;
-  jump = λ new to ds h. k.jump to ds h;
-  past_call = λ new ds h. k.past_call ds h;
-  pend = λ new r ds x h. k.pend r ds h;
-  hold = λ new held ds x h. k.hold held ds h;
-  rest = λ ds h. k.rest ds h;
-  make = λ o ds x h. k.make o ds h;
-  touch = λ n ds h. k.touch n ds h;
-  saw = λ look ds e is h. k.saw look ds e is h;
-  saw_static = λ c field v ds e is h. k.saw_static c field v ds e is h;
-  reads = λ n ds h. k.reads n ds h;
-  print = λ bytes ds h. k.print bytes ds h;
-  set_static = λ c field v ds is e x h. k.set_static c field v ds is e h;
-  writes = λ n ds h. k.writes n ds h;
-  set_field = λ n place v ds e x h. k.set_field n place v ds e h;
-  set_item = λ n place v ds e x h. k.set_item n place v ds e h;
-  saw_then = λ n look ds e is h. k.saw_then n look ds e is h;
-  make_then = λ n o ds x h. k.make_then n o ds h;
-  rest_then = λ n ds h. k.rest_then n ds h;
-}
-
-abbrev pub valued_calls : {p : Program} {s : State} {f : Frame} {Ends : List Deed → Type 0} {After : ℕ → List Deed → Type 0} {All : List Deed → Type 0}
-    → RowLists p s f Ends After All → ValuedCalls p s f AnyValue AnyObject (λ new. Ends) After All All
-valued_calls k = record { inner = valued k; call_native = λ m ds h. k.call_native m ds h }
-
--- a property of each deed that rows do, kind by kind
-pub record RowKinds (p : Program) (s : State) (f : Frame) (P : Deed → Type 0) : Type 0 where
-  pub make : (o : Object) → P (Make o)
-  pub touch : (n : ℕ) → P (Touch n)
-  pub saw : (look : Look) → IsSeen p s look → P (Saw look)
-  pub reads : (n : ℕ) → P (Reads n)
-  pub writes : (n : ℕ) → P (Writes n)
-  pub set_static : (field : ℕ) (v : Value) → field < length s.statics → P (SetStatic field v)
-  pub set_field : (n place : ℕ) (v : Value) → HasField s n place → P (SetField n place v)
-  pub set_item : (n place : ℕ) (v : Value) → HasItem s n place → P (SetItem n place v)
-  pub call_native : (m : ℕ) → P (CallNative m)
-  pub print : (bytes : List ℕ) → P (Print bytes)
-  pub push_call : (g : Frame) → P (Push (Call g))
-  pub pop : P Pop
-  pub set_reg : (a : ℕ) (v : Value) → a < length f.registers → P (SetReg a v)
-  pub jump : (to : ℕ) → P (Jump to)
-  pub past_call : P GoOn
-  pub pend : (r : Ref) → P (Pend r)
-  pub hold : (h : Held) → P (Hold h)
-
--- lists of deeds
-pub each_append : (P : Deed → Type 0) (xs ys : List Deed) → EachDeed P xs → EachDeed P ys → EachDeed P (xs ++ ys)
-each_append P [] ys a b = b
-each_append P (x ∷ xs) ys a b = (a.0, each_append P xs ys a.1 b)
+-- what is known of a deed that a row does, but for the call of a native: what is told as read stands so, and what is written
+-- is there
+abbrev pub RowFact : Program → State → Frame → Deed → Type 0
+RowFact p s f (Saw look) = IsSeen p s look
+RowFact p s f (SetStatic field v) = field < length s.statics
+RowFact p s f (SetField n place v) = HasField s n place
+RowFact p s f (SetItem n place v) = HasItem s n place
+RowFact p s f (SetReg a v) = a < length f.registers
+RowFact p s f (SetStatus c status) = ⊥
+RowFact p s f (CallNative m) = ⊥
+RowFact p s f Start = ⊥
+RowFact p s f (Push (Record c phase)) = ⊥
+RowFact p s f (SetPhase phase) = ⊥
+RowFact p s f Unpend = ⊥
+RowFact p s f _ = Unit {0}
 
 -- where each deed of a list fails a test, no deed passes it
 pub each_fails : (test : Deed → Bool) (ds : List Deed) → EachDeed (λ d. test d ≡ false) ds → list_any test ds ≡ false
@@ -242,31 +177,31 @@ each_fails test (d ∷ ds) e = neither (test d) (list_any test ds) e.0 (each_fai
     neither true b x y = x
     neither false b x y = y
 
--- such a property as one of lists
-abbrev pub of_each : {p : Program} {s : State} {f : Frame} {P : Deed → Type 0} → RowKinds p s f P → RowLists p s f (EachDeed P) (λ n. EachDeed P) (EachDeed P)
-of_each k = record {
-  none = tt;
-  push_call = λ g ds h. (k.push_call g, h);
-  pop = λ ds h. (k.pop, h);
-  set_reg = λ a v ds e h. (k.set_reg a v e, h);
-  jump = λ to ds h. (k.jump to, h);
-  past_call = λ ds h. (k.past_call, h);
-  pend = λ r ds h. (k.pend r, h);
-  hold = λ held ds h. (k.hold held, h);
+-- a property of each such deed, as one of lists
+abbrev pub of_each : {p : Program} {s : State} {f : Frame} {P : Deed → Type 0} → ((d : Deed) → RowFact p s f d → P d)
+    → RowLists p s f AnyValue AnyObject (λ new. EachDeed P) (λ n. EachDeed P) (EachDeed P)
+of_each one = record {
+  none = λ new. tt;
+  push_call = λ new g ds x h. (one (Push (Call g)) tt, h);
+  pop = λ new ds h. (one Pop tt, h);
+  set_reg = λ new a v ds e x h. (one (SetReg a v) e, h);
+  jump = λ new to ds h. (one (Jump to) tt, h);
+  past_call = λ new ds h. (one GoOn tt, h);
+  pend = λ new r ds x h. (one (Pend r) tt, h);
+  hold = λ new held ds x h. (one (Hold held) tt, h);
   rest = λ ds h. h;
-  make = λ o ds h. (k.make o, h);
-  touch = λ n ds h. (k.touch n, h);
-  saw = λ look ds e is h. (k.saw look e, h);
-  saw_static = λ c field v ds e is h. (k.saw (OfStatic field v) e, h);
-  reads = λ n ds h. (k.reads n, h);
-  call_native = λ m ds h. (k.call_native m, h);
-  print = λ bytes ds h. (k.print bytes, h);
-  set_static = λ c field v ds is e h. (k.set_static field v e, h);
-  writes = λ n ds h. (k.writes n, h);
-  set_field = λ n place v ds e h. (k.set_field n place v e, h);
-  set_item = λ n place v ds e h. (k.set_item n place v e, h);
-  saw_then = λ n look ds e is h. (k.saw look e, h);
-  make_then = λ n o ds h. (k.make o, h);
+  make = λ o ds x h. (one (Make o) tt, h);
+  touch = λ n ds h. (one (Touch n) tt, h);
+  saw = λ look ds e is h. (one (Saw look) e, h);
+  saw_static = λ c field v ds e is h. (one (Saw (OfStatic field v)) e, h);
+  reads = λ n ds h. (one (Reads n) tt, h);
+  print = λ bytes ds h. (one (Print bytes) tt, h);
+  set_static = λ c field v ds is e x h. (one (SetStatic field v) e, h);
+  writes = λ n ds h. (one (Writes n) tt, h);
+  set_field = λ n place v ds e x h. (one (SetField n place v) e, h);
+  set_item = λ n place v ds e x h. (one (SetItem n place v) e, h);
+  saw_then = λ n look ds e is h. (one (Saw look) e, h);
+  make_then = λ n o ds x h. (one (Make o) tt, h);
   rest_then = λ n ds h. h;
 }
 
@@ -337,11 +272,6 @@ module _ {Q : List Deed → Type 0} where
   by_kind kind.Ref (Some (At r)) h = h (At r) refl
   by_kind kind.Ref _ h = stuck
 
-  -- a throwable is made and pending
-  pub throwing : ((o : Object) (r : Ref) → Q (Make o ∷ Pend r ∷ [])) → (p : Program) (s : State) (class : Known) → Does Q (throws p s class)
-  throwing h p s class =
-      made_from (λ c. Make (new_instance p c) ∷ Pend (next_made s) ∷ []) (class_named p (descriptor_of class)) (λ c. h (new_instance p c) (next_made s))
-
 -- operands with their values, results and throws
 module _ {p : Program} {s : State} {f : Frame} {V : Option Ref → Value → Type 0} {O : Object → Type 0} {U : List ℕ → Type 0} (g : RowFacts p s f V O U) where
   pub by_operand : {Q : List Deed → Type 0} (k : Kind) (a : ℕ) {go : Value → Deeds} → ((v : Value) → V None v → Does Q (go v)) → Does Q (with_operand s f k a go)
@@ -355,7 +285,7 @@ module _ {p : Program} {s : State} {f : Frame} {V : Option Ref → Value → Typ
   registers_values (a ∷ regs) vs e = by_joined (register_of f a) (registers_of f regs) refl (registers_values regs) e
     where
       by_joined : (o : Option Value) (rest : Option (List Value)) → register_of f a ≡ o → ((xs : List Value) → rest ≡ Some xs → EachOf (V None) xs)
-          → joined o rest ≡ Some vs → EachOf (V None) vs
+          → value_list o rest ≡ Some vs → EachOf (V None) vs
       by_joined None rest is h j = cc
       by_joined (Some v) None is h j = cc
       by_joined (Some v) (Some xs) is h j = subst (EachOf (V None)) (some_same (v ∷ xs) vs j) (g.register a v is, h xs refl)
@@ -366,14 +296,14 @@ registers_count f [] vs e = sym (ap (λ xs. length xs) (some_same [] vs e))
 registers_count f (a ∷ regs) vs e = by_joined (register_of f a) (registers_of f regs) (registers_count f regs) e
   where
     by_joined : (o : Option Value) (rest : Option (List Value)) → ((xs : List Value) → rest ≡ Some xs → length xs ≡ length regs)
-        → joined o rest ≡ Some vs → length vs ≡ length (a ∷ regs)
+        → value_list o rest ≡ Some vs → length vs ≡ length (a ∷ regs)
     by_joined None rest h j = cc
     by_joined (Some v) None h j = cc
     by_joined (Some v) (Some xs) h j = sym (ap (λ ys. length ys) (some_same (v ∷ xs) vs j)) ∙ ap (λ n. suc n) (h xs refl)
 
 module _ {p : Program} {s : State} {f : Frame} {V : Option Ref → Value → Type 0} {O : Object → Type 0} {U : List ℕ → Type 0}
     {Ends : Option Ref → List Deed → Type 0} {After : ℕ → List Deed → Type 0} {All : List Deed → Type 0}
-    (g : RowFacts p s f V O U) (k : ValuedLists p s f V O Ends After All) where
+    (g : RowFacts p s f V O U) (k : RowLists p s f V O Ends After All) where
   pub goes_on : (new : Option Ref) (units : ℕ) → Ends new (go_on f units)
   goes_on new units = k.jump new (f.at + units) [] (k.none new)
 

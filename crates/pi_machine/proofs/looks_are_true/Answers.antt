@@ -1,5 +1,5 @@
--- The law stands in StepDeeds.
-use Rattle.pi_machine.proofs.StepDeeds.{looks_are_true as law}
+-- The law stands in Moves.
+use Rattle.pi_machine.proofs.Moves.{looks_are_true as law}
 use Rattle.pi_machine.proofs.looks_are_true.Goals as goal
 
 pub returns : goal.returns

@@ -13,7 +13,7 @@ use Rattle.pi_model.specs.Values.{Ref, Num, Value, Word, Low, High, Long, At, Ar
 use Rattle.pi_machine.specs.State.{State, Frame, Result}
 use Rattle.pi_machine.specs.Deeds.{Make, Saw, OfItem, Reads, Writes, SetItem, Hold}
 use Rattle.pi_machine.specs.Objects.{Shape, OfArray, shape_at, object_at, item_in}
-use Rattle.pi_machine.specs.Operands.{Deeds, first_do, with_word, with_ref, with_operand, of_kind, register_of, registers_of, is_reference_value, set_and_go, go_on, kind_of, fits_letter, kept, narrowed}
+use Rattle.pi_machine.specs.Operands.{Deeds, first_do, with_word, with_ref, with_operand, of_kind, register_of, registers_of, is_reference_value, set_and_go, go_on, kind_of, fits_letter, stored_value, narrow_word}
 use Rattle.pi_machine.specs.Throwing.{throws, next_made}
 use Rattle.pi_machine.specs.Natives.{component, fits_component, is_index, sets_items}
 
@@ -56,23 +56,23 @@ fills s letter (High n) = false
 fills s letter (Long n) = false
 
 -- a new array of the values of registers is held as a result; their types are not tested
-abbrev pub filled : Program → State → Frame → ℕ → NameNo → List Value → Deeds
-filled p s f units t values =
+abbrev pub filled_array : Program → State → Frame → ℕ → NameNo → List Value → Deeds
+filled_array p s f units t values =
     if is_array p t && list_all (fills s (item_letter p t.0)) values
     then Some (Make (Array t.0 values) ∷ Hold (Result (At (next_made s))) ∷ go_on f units) else None
 
 -- a new array of the values of registers, where the frame has them
 abbrev pub filled_row : Program → State → Frame → ℕ → NameNo → List ℕ → Deeds
-filled_row p s f units t regs = option_and_then (filled p s f units t) (registers_of f regs)
+filled_row p s f units t regs = option_and_then (filled_array p s f units t) (registers_of f regs)
 
 -- an item of an array's data as an element whose descriptor begins with that letter
 abbrev pub item_value : ℕ → ℕ → Value
 item_value letter n =
     if letter == 74 then Long n else
-    if letter == 90 then Word (narrowed access.Bool n) else
-    if letter == 66 then Word (narrowed access.Byte n) else
-    if letter == 67 then Word (narrowed access.Char n) else
-    if letter == 83 then Word (narrowed access.Short n) else Word n
+    if letter == 90 then Word (narrow_word access.Bool n) else
+    if letter == 66 then Word (narrow_word access.Byte n) else
+    if letter == 67 then Word (narrow_word access.Char n) else
+    if letter == 83 then Word (narrow_word access.Short n) else Word n
 
 -- an array of primitives of a width takes all items of the data, or none where they are too many
 abbrev pub fill_array_row : Program → State → Frame → ℕ → ℕ → ℕ → List ℕ → Deeds
@@ -108,4 +108,4 @@ aput_row p s f units k a b c = with_word (register_of f c) (λ i. with_operand s
     with_ref s (register_of f b) (throws p s NullPointer) (λ r. with_array r (shape_at p s r) (λ n ty items.
     if not (fits_letter k (item_letter p ty)) then None else
     if not (is_index i items) then throws p s ArrayIndexOutOfBounds else
-    if may_store p s k ty v then Some (Writes n ∷ SetItem n i (kept k v) ∷ go_on f units) else throws p s ArrayStore))))
+    if may_store p s k ty v then Some (Writes n ∷ SetItem n i (stored_value k v) ∷ go_on f units) else throws p s ArrayStore))))

@@ -134,12 +134,12 @@ with_receiver p s [] go = None
 with_receiver p s (v ∷ vs) go = with_ref s (Some v) (throws p s NullPointer) go
 
 -- the call of a method that was found, with its arguments
-abbrev pub invoked : Program → State → Frame → ℕ → How → MethodRef → List Value → Member → Deeds
-invoked p s f units Static m args i = call_row p s f units args (Some i)
-invoked p s f units Direct m args i = with_receiver p s args (λ r. call_row p s f units args (Some i))
-invoked p s f units Super m args i = with_receiver p s args (λ r. super_row p s f units m args)
-invoked p s f units Virtual m args i = with_receiver p s args (virtual_row p s f units m args)
-invoked p s f units Interface m args i = with_receiver p s args (interface_row p s f units m i args)
+abbrev pub invocation : Program → State → Frame → ℕ → How → MethodRef → List Value → Member → Deeds
+invocation p s f units Static m args i = call_row p s f units args (Some i)
+invocation p s f units Direct m args i = with_receiver p s args (λ r. call_row p s f units args (Some i))
+invocation p s f units Super m args i = with_receiver p s args (λ r. super_row p s f units m args)
+invocation p s f units Virtual m args i = with_receiver p s args (virtual_row p s f units m args)
+invocation p s f units Interface m args i = with_receiver p s args (interface_row p s f units m i args)
 
 -- arguments of the wrong kinds are stuck
 abbrev pub with_arguments : Program → State → How → MethodRef → Option (List Value) → (List Value → Deeds) → Deeds
@@ -149,4 +149,4 @@ with_arguments p s how m (Some args) go = if arguments_fit s (argument_kinds p h
 -- a call: its arguments, then its method
 abbrev pub invoke_row : Program → State → Frame → ℕ → How → MethodRef → List ℕ → Deeds
 invoke_row p s f units how m regs =
-    with_arguments p s how m (registers_of f regs) (λ args. option_and_then (invoked p s f units how m args) (find_method p m))
+    with_arguments p s how m (registers_of f regs) (λ args. option_and_then (invocation p s f units how m args) (find_method p m))

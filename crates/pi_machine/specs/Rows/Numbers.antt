@@ -98,12 +98,12 @@ equality Gt same = None
 equality Le same = None
 
 -- a condition on two operands: words by their signed order, references and null by being the same
-abbrev pub compared : State → Cond → Option Value → Option Value → Option Bool
-compared s cond (Some (Word m)) (Some (Word n)) = Some (condition_holds cond m n)
-compared s cond (Some (At r)) (Some (At q)) = if names_thing s r then (if names_thing s q then equality cond (same_ref r q) else None) else None
-compared s cond (Some (At r)) (Some (Word zero)) = if names_thing s r then equality cond false else None
-compared s cond (Some (Word zero)) (Some (At q)) = if names_thing s q then equality cond false else None
-compared s cond _ _ = None
+abbrev pub comparison : State → Cond → Option Value → Option Value → Option Bool
+comparison s cond (Some (Word m)) (Some (Word n)) = Some (condition_holds cond m n)
+comparison s cond (Some (At r)) (Some (At q)) = if names_thing s r then (if names_thing s q then equality cond (same_ref r q) else None) else None
+comparison s cond (Some (At r)) (Some (Word zero)) = if names_thing s r then equality cond false else None
+comparison s cond (Some (Word zero)) (Some (At q)) = if names_thing s q then equality cond false else None
+comparison s cond _ _ = None
 
 -- a branch, where its operands can be compared
 abbrev pub branch_by : Frame → ℕ → ℕ → Option Bool → Deeds
@@ -112,11 +112,11 @@ branch_by f units to (Some taken) = branch f units to taken
 
 -- two registers are compared
 abbrev pub if_row : State → Frame → ℕ → Cond → ℕ → ℕ → ℕ → Deeds
-if_row s f units cond a b to = branch_by f units to (compared s cond (register_of f a) (register_of f b))
+if_row s f units cond a b to = branch_by f units to (comparison s cond (register_of f a) (register_of f b))
 
 -- a register is compared with 0, or with null
 abbrev pub if_zero_row : State → Frame → ℕ → Cond → ℕ → ℕ → Deeds
-if_zero_row s f units cond a to = branch_by f units to (compared s cond (register_of f a) (Some (Word 0)))
+if_zero_row s f units cond a to = branch_by f units to (comparison s cond (register_of f a) (Some (Word 0)))
 
 -- the case of a switch with that key; without one the run goes on behind the instruction
 abbrev pub to_case : Frame → ℕ → Option Case → Deeds

@@ -13,7 +13,7 @@ use Rattle.pi_model.specs.Values.{Ref, Num, Word, At}
 use Rattle.pi_machine.specs.State.{State, Frame}
 use Rattle.pi_machine.specs.Deeds.{Make, Saw, OfStatic, OfField, Reads, Writes, SetStatic, SetField, Pend}
 use Rattle.pi_machine.specs.Objects.{Shape, OfInstance, shape_at, object_at, field_in}
-use Rattle.pi_machine.specs.Operands.{Deeds, first_do, with_ref, with_operand, of_kind, register_of, set_and_go, go_on, kind_of, kept}
+use Rattle.pi_machine.specs.Operands.{Deeds, first_do, with_ref, with_operand, of_kind, register_of, set_and_go, go_on, kind_of, stored_value}
 use Rattle.pi_machine.specs.Throwing.{throws, next_made, is_of_type}
 use Rattle.pi_machine.specs.Natives.{truth}
 
@@ -61,7 +61,7 @@ iget_row p s f units access a b r = option_and_then (reads_field p s f units acc
 abbrev pub writes_field : Program → State → Frame → ℕ → Access → ℕ → ℕ → Member → Deeds
 writes_field p s f units access a b i =
     with_operand s f (kind_of access) a (λ v. with_ref s (register_of f b) (throws p s NullPointer) (λ o.
-    with_instance p o i (shape_at p s o) (λ n place. Some (Writes n ∷ SetField n place (kept access v) ∷ go_on f units))))
+    with_instance p o i (shape_at p s o) (λ n place. Some (Writes n ∷ SetField n place (stored_value access v) ∷ go_on f units))))
 
 -- a register is written to a field
 abbrev pub iput_row : Program → State → Frame → ℕ → Access → ℕ → ℕ → FieldRef → Deeds
@@ -82,7 +82,7 @@ abbrev pub writes_static_field : Program → State → Frame → ℕ → Access 
 writes_static_field p s f units access a i =
     with_operand s f (kind_of access) a (λ v.
     if nat_lt (field_no_of p i) (length s.statics)
-    then Some (SetStatic (field_no_of p i) (kept access v) ∷ go_on f units) else None)
+    then Some (SetStatic (field_no_of p i) (stored_value access v) ∷ go_on f units) else None)
 
 -- a register is written to a static field
 abbrev pub sput_row : Program → State → Frame → ℕ → Access → ℕ → FieldRef → Deeds
