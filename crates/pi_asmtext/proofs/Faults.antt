@@ -9,7 +9,7 @@ use Rattle.pi_asmtext.specs.Grammar.{text, IsText, BeginsText}
 use Rattle.pi_asmtext.specs.Checks.{symbol_test}
 use Rattle.pi_asmtext.specs.Places.{Placed, symbols, AtSymbol, AtEnd}
 use Rattle.pi_asmtext.specs.Walking.{Place, on_left, walk}
-use Rattle.pi_asmtext.proofs.Runs.{test_fits, fits_test, some_begins, none_begins}
+use Rattle.pi_asmtext.proofs.Derivatives.{test_fits, fits_test, some_begins, none_begins}
 use Rattle.pi_asmtext.proofs.Meanings.{symbol_right, right_symbol, symbol_samples}
 
 -- what is left behind symbols
@@ -65,7 +65,7 @@ walk_err (x ∷ xs) p place e = by (left symbol_test x.symbol p) refl (λ r. wal
 
 begins : (ps : List Placed) (q : Pattern Class) → behind_symbols ps (Some text) ≡ Some q → BeginsText (symbols ps)
 unfolding BeginsText
-begins ps q e = some_begins Is symbol_test symbol_right symbol_samples text q (symbols ps) e
+begins ps q e = some_begins Is symbol_samples symbol_test symbol_right text q (symbols ps) e
 
 begins_none : (ps : List Placed) → behind_symbols ps (Some text) ≡ None → BeginsText (symbols ps) → ⊥
 unfolding BeginsText

@@ -10,19 +10,8 @@ use Rattle.pi_asmtext.specs.Walking.{Place, on_left, walk, Small, AllSmall}
 use Rattle.pi_asmtext.specs.declared.file.Token.{Token}
 use Rattle.pi_asmtext.specs.declared.file.AsmLine.{AsmLine}
 use Rattle.pi_asmtext.specs.declared.state.State.{State}
-use Rattle.pi_asmtext.specs.declared.state.State.TheVariants as state
-use Rattle.pi_asmtext.proofs.Walks.{Right, place_right, line_right}
-use Rattle.pi_asmtext.proofs.Operands.{spot_right, ends_right}
-use Rattle.pi_asmtext.proofs.Declarations.{declares}
+use Rattle.pi_asmtext.proofs.Transitions.{next_right, ends_right}
 use Rattle.pi_asmtext.proofs.Faults.{walk_again, walk_stops}
-
-next_right : (s : State) (us : List ℕ) → Right s us
-next_right (state.At p) us = place_right p us
-next_right (state.Line w p) us = line_right w p us
-next_right state.Class us = (declares us).2
-next_right (state.Field s) us = (declares us).0 s
-next_right (state.Method s) us = (declares us).1 s
-next_right (state.Operands s) us = spot_right s us
 
 -- an element of a list, and those behind it
 pub item_first : {A : Type 0} (xs : List A) (i : ℕ) (x : A) → i < length xs → x ≡ get_or xs i x → drop i xs ≡ x ∷ drop (i + 1) xs

@@ -34,12 +34,7 @@ token_test Catch us = same_text us (codes "any") || spelled word.Desc us
 
 abbrev pub is_ending : Class → Bool
 is_ending Ending = true
-is_ending (Exactly w) = false
-is_ending (OneOf w ws) = false
-is_ending (Spelled k) = false
-is_ending OtherDesc = false
-is_ending Value = false
-is_ending Catch = false
+is_ending _ = false
 
 abbrev pub symbol_test : Class → Symbol → Bool
 symbol_test c (Token us) = token_test c us

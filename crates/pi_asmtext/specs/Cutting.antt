@@ -24,9 +24,7 @@ with_token m = record m { tokens = m.tokens ++ record { column = m.start; units 
 abbrev pub closed_in : Mode → Cutter → Cutter
 closed_in Between m = record m { mode = Between }
 closed_in Comment m = record m { mode = Between }
-closed_in Run m = with_token m
-closed_in Quoted m = with_token m
-closed_in Escaped m = with_token m
+closed_in _ m = with_token m
 
 abbrev pub closed : Cutter → Cutter
 closed m = closed_in m.mode m
@@ -38,10 +36,7 @@ opened mode m c = pushed (record (closed m) { start = m.column; mode = mode }) c
 -- a character of a run
 abbrev pub run_on : Mode → Cutter → ℕ → Cutter
 run_on Run m c = pushed m c
-run_on Between m c = opened Run m c
-run_on Quoted m c = opened Run m c
-run_on Escaped m c = opened Run m c
-run_on Comment m c = opened Run m c
+run_on _ m c = opened Run m c
 
 -- a character that is in no string and no comment
 abbrev pub outside : Cutter → ℕ → Cutter
