@@ -1,7 +1,6 @@
 -- Lemmas on patterns and tokens.
 pub mod Derivatives
 pub mod Cutting
-pub mod Counting
 pub mod Spelling
 pub mod Rows
 pub mod Transitions

@@ -12,7 +12,7 @@ use Rattle.pi_asmtext.specs.Cutting.{at_start, taken, taken_all, finished}
 use Rattle.pi_asmtext.specs.Walking.{AllSmall}
 use Rattle.pi_asmtext.specs.declared.file.AsmLine.{AsmLine}
 use Rattle.pi_asmtext.proofs.Bounds.{text_small}
-use Rattle.pi_asmtext.proofs.Counting.{rises, one_more, cut_lines, cut_after}
+use Rattle.pi_asmtext.proofs.Cutting.{rises, one_more, cut_lines, cut_after}
 use Rattle.pi_asmtext.proofs.tokens.cut_text.Goals as goal
 use Rattle.pi_asmtext.proofs.tokens.cut_text.Goals.{After-finish}
 
