@@ -1,5 +1,5 @@
 -- Lines of other numbers of fields, and lines that are not UTF-8.
-use Rattle.std.proofs.Common.{◌≡◌, ◌≢◌, ℕ, List, [], ◌∷◌, length, map, None, refl, arith}
+use Rattle.std.proofs.Common.{◌≡◌, ◌≢◌, ℕ, List, [], ◌∷◌, length, map, None, refl}
 use Rattle.std.specs.Str.{IsUtf8}
 use Rattle.pi_job.specs.declared.draft.Draft.{Draft}
 use Rattle.pi_job.specs.Job.{with_fields, line_added}

@@ -74,12 +74,16 @@ fn image_of(
 fn add_one(alloc: Global, draft: &mut Draft, kind: &str, value: &str) -> Result<bool, AllocError>
     ensures { Took (with_one draft.old kind.now value.now) draft.new result }
 {
-    match kind {
-        "dex" => draft.add_dex(alloc, value),
-        "frames" => Ok(draft.add_frames(value)),
-        "steps" => Ok(draft.add_steps(value)),
-        "main" => draft.add_main(alloc, value),
-        _ => Ok(false),
+    if kind == "dex" {
+        draft.add_dex(alloc, value)
+    } else if kind == "frames" {
+        Ok(draft.add_frames(value))
+    } else if kind == "steps" {
+        Ok(draft.add_steps(value))
+    } else if kind == "main" {
+        draft.add_main(alloc, value)
+    } else {
+        Ok(false)
     }
 }
 
