@@ -4,7 +4,7 @@ use Rattle.std.proofs.Common.{◌≡◌, Bool, true, false, ◌⊎◌, inl, inr,
 use Rattle.std.specs.Prelude.{if◌then◌else◌}
 use Rattle.std.proofs.lemmas.Bool.{and_parts, or_cases, or_left, or_right}
 use Rattle.pi_asmtext.specs.Patterns.{Pattern, Empty, One, Then, Either, Many, Parts, none, more, Fits, Begins}
-use Rattle.pi_asmtext.specs.Lefts.{joined, then_left, either_left, may_end, left, left_behind, ends, fits}
+use Rattle.pi_asmtext.specs.Derivatives.{sequence, then_left, either_left, may_end, derivative, derivative_by, ends, fits}
 
 no_parts : {A : Type 0} (xs ys : List A) → [] ≡ xs ++ ys → ([] ≡ xs) × ([] ≡ ys)
 no_parts [] ys e = (refl, e)
@@ -19,19 +19,19 @@ module _ {C A : Type 0} (of : C → A → Type 0) where
   FitsLeft None xs = ⊥
   FitsLeft (Some p) xs = Fits of p xs
 
-  from_joined : (p q : Pattern C) (xs : List A) → Fits of (joined p q) xs → Fits of (Then p q) xs
-  from_joined Empty q xs h = ([], xs, refl, refl, h)
-  from_joined (Then p r) q xs h = by h (from_joined r q h.1 h.4)
+  from_sequence : (p q : Pattern C) (xs : List A) → Fits of (sequence p q) xs → Fits of (Then p q) xs
+  from_sequence Empty q xs h = ([], xs, refl, refl, h)
+  from_sequence (Then p r) q xs h = by h (from_sequence r q h.1 h.4)
     where
-      by : (h : Fits of (Then p (joined r q)) xs) → Fits of (Then r q) h.1 → Fits of (Then (Then p r) q) xs
+      by : (h : Fits of (Then p (sequence r q)) xs) → Fits of (Then r q) h.1 → Fits of (Then (Then p r) q) xs
       by h i = (h.0 ++ i.0, i.1, h.2 ∙ ap (λ (zs : List A). h.0 ++ zs) i.2 ∙ sym (append_assoc h.0 i.0 i.1), (h.0, i.0, refl, h.3, i.3), i.4)
-  from_joined _ q xs h = h
+  from_sequence _ q xs h = h
 
-  to_joined : (p q : Pattern C) (xs : List A) → Fits of (Then p q) xs → Fits of (joined p q) xs
-  to_joined Empty q xs h = subst (λ (ys : List A). Fits of q ys) (sym (h.2 ∙ ap (λ (zs : List A). zs ++ h.1) h.3)) h.4
-  to_joined (Then p r) q xs h =
-      (h.3.0, h.3.1 ++ h.1, h.2 ∙ ap (λ (zs : List A). zs ++ h.1) h.3.2 ∙ append_assoc h.3.0 h.3.1 h.1, h.3.3, to_joined r q (h.3.1 ++ h.1) (h.3.1, h.1, refl, h.3.4, h.4))
-  to_joined _ q xs h = h
+  to_sequence : (p q : Pattern C) (xs : List A) → Fits of (Then p q) xs → Fits of (sequence p q) xs
+  to_sequence Empty q xs h = subst (λ (ys : List A). Fits of q ys) (sym (h.2 ∙ ap (λ (zs : List A). zs ++ h.1) h.3)) h.4
+  to_sequence (Then p r) q xs h =
+      (h.3.0, h.3.1 ++ h.1, h.2 ∙ ap (λ (zs : List A). zs ++ h.1) h.3.2 ∙ append_assoc h.3.0 h.3.1 h.1, h.3.3, to_sequence r q (h.3.1 ++ h.1) (h.3.1, h.1, refl, h.3.4, h.4))
+  to_sequence _ q xs h = h
 
   -- the two ways out of a choice, and into it
   either_out : (a b : Option (Pattern C)) (xs : List A) → FitsLeft (either_left a b) xs → FitsLeft a xs ⊎ FitsLeft b xs
@@ -69,12 +69,12 @@ module _ {C A : Type 0} (of : C → A → Type 0) where
   then_back : (x : A) (p q : Pattern C) (l : Option (Pattern C)) (xs : List A) → ((ys : List A) → FitsLeft l ys → Fits of p (x ∷ ys))
       → FitsLeft (then_left l q) xs → Fits of (Then p q) (x ∷ xs)
   then_back x p q None xs back h = absurd h
-  then_back x p q (Some r) xs back h = let i = from_joined r q xs h in (x ∷ i.0, i.1, ap (λ (zs : List A). x ∷ zs) i.2, back i.0 i.3, i.4)
+  then_back x p q (Some r) xs back h = let i = from_sequence r q xs h in (x ∷ i.0, i.1, ap (λ (zs : List A). x ∷ zs) i.2, back i.0 i.3, i.4)
 
   then_on : (q : Pattern C) (l : Option (Pattern C)) (xs front rest : List A) → xs ≡ front ++ rest → FitsLeft l front → Fits of q rest
       → FitsLeft (then_left l q) xs
   then_on q None xs front rest e h i = absurd h
-  then_on q (Some r) xs front rest e h i = to_joined r q xs (front, rest, e, h, i)
+  then_on q (Some r) xs front rest e h i = to_sequence r q xs (front, rest, e, h, i)
 
   -- behind the first element of a first part
   front_on : (p q : Pattern C) (l : Option (Pattern C)) (x : A) (xs front rest : List A) → x ∷ xs ≡ front ++ rest
@@ -99,33 +99,33 @@ module _ {C A : Type 0} (of : C → A → Type 0) where
         elim (either_out (then_left l q) m xs h) [ inl a ↦ then_back x p q l xs first a | inr b ↦ ([], x ∷ xs, refl, end_fits p e, second b) ]
     both_back x p q l m xs false e first second h = then_back x p q l xs first h
 
-    back : (x : A) (p : Pattern C) (xs : List A) → FitsLeft (left test x p) xs → Fits of p (x ∷ xs)
+    back : (x : A) (p : Pattern C) (xs : List A) → FitsLeft (derivative test x p) xs → Fits of p (x ∷ xs)
     back x Empty xs h = absurd h
     back x (One c) xs h = one_back c x xs (test c x) (right c x) h
-    back x (Then p q) xs h = both_back x p q (left test x p) (left test x q) xs (may_end p) refl (back x p) (back x q xs) h
-    back x (Either p q) xs h = elim (either_out (left test x p) (left test x q) xs h) [ inl a ↦ inl (back x p xs a) | inr b ↦ inr (back x q xs b) ]
+    back x (Then p q) xs h = both_back x p q (derivative test x p) (derivative test x q) xs (may_end p) refl (back x p) (back x q xs) h
+    back x (Either p q) xs h = elim (either_out (derivative test x p) (derivative test x q) xs h) [ inl a ↦ inl (back x p xs a) | inr b ↦ inr (back x q xs b) ]
     back x (Many p) xs h =
-        let b = then_back x p (Many p) (left test x p) xs (back x p) h in
+        let b = then_back x p (Many p) (derivative test x p) xs (back x p) h in
         subst (λ (ys : List A). Fits of (Many p) ys) (sym b.2) (more b.0 b.1 b.3 b.4)
 
-    run_fits : (o : Option (Pattern C)) (xs : List A) → ends (left_behind test xs o) ≡ true → FitsLeft o xs
+    run_fits : (o : Option (Pattern C)) (xs : List A) → ends (derivative_by test xs o) ≡ true → FitsLeft o xs
     run_fits None xs h = absurd (cc)
     run_fits (Some p) [] h = end_fits p h
-    run_fits (Some p) (x ∷ xs) h = back x p xs (run_fits (left test x p) xs h)
+    run_fits (Some p) (x ∷ xs) h = back x p xs (run_fits (derivative test x p) xs h)
 
     -- the test says that the list fits
     pub test_fits : (p : Pattern C) (xs : List A) → fits test p xs ≡ true → Fits of p xs
     test_fits p xs h = run_fits (Some p) xs h
 
     -- a list that fits what is left behind another fits behind it
-    behind_fits : (o : Option (Pattern C)) (xs ys : List A) → FitsLeft (left_behind test xs o) ys → FitsLeft o (xs ++ ys)
+    behind_fits : (o : Option (Pattern C)) (xs ys : List A) → FitsLeft (derivative_by test xs o) ys → FitsLeft o (xs ++ ys)
     behind_fits None xs ys h = absurd h
     behind_fits (Some p) [] ys h = h
-    behind_fits (Some p) (x ∷ xs) ys h = back x p (xs ++ ys) (behind_fits (left test x p) xs ys h)
+    behind_fits (Some p) (x ∷ xs) ys h = back x p (xs ++ ys) (behind_fits (derivative test x p) xs ys h)
 
   -- what fits behind the element, fits what is left
   module _ (test : C → A → Bool) (right : (c : C) (x : A) → of c x → test c x ≡ true) where
-    one_on : (c : C) (x : A) (xs : List A) → Fits of (One c) (x ∷ xs) → FitsLeft (left test x (One c)) xs
+    one_on : (c : C) (x : A) (xs : List A) → Fits of (One c) (x ∷ xs) → FitsLeft (derivative test x (One c)) xs
     one_on c x xs h =
         let same = cons_parts x h.0 xs [] h.1 in rw (right c x (subst (λ (y : A). of c y) (sym same.0) h.2)) same.1
 
@@ -151,29 +151,29 @@ module _ {C A : Type 0} (of : C → A → Type 0) where
         by (inl a) again = a
         by (inr b) again = again b.1
 
-    onward : (x : A) (p : Pattern C) (xs : List A) → Fits of p (x ∷ xs) → FitsLeft (left test x p) xs
+    onward : (x : A) (p : Pattern C) (xs : List A) → Fits of p (x ∷ xs) → FitsLeft (derivative test x p) xs
     onward x Empty xs h = absurd (cc)
     onward x (One c) xs h = one_on c x xs h
-    onward x (Then p q) xs h = then_turn p q (left test x p) (left test x q) x xs (may_end p) refl (onward x p) (onward x q xs) h
-    onward x (Either p q) xs (inl h) = either_in (left test x p) (left test x q) xs (inl (onward x p xs h))
-    onward x (Either p q) xs (inr h) = either_in (left test x p) (left test x q) xs (inr (onward x q xs h))
-    onward x (Many p) xs h = many_turn p (left test x p) x xs (x ∷ xs) (onward x p) h refl
+    onward x (Then p q) xs h = then_turn p q (derivative test x p) (derivative test x q) x xs (may_end p) refl (onward x p) (onward x q xs) h
+    onward x (Either p q) xs (inl h) = either_in (derivative test x p) (derivative test x q) xs (inl (onward x p xs h))
+    onward x (Either p q) xs (inr h) = either_in (derivative test x p) (derivative test x q) xs (inr (onward x q xs h))
+    onward x (Many p) xs h = many_turn p (derivative test x p) x xs (x ∷ xs) (onward x p) h refl
 
-    fits_run : (o : Option (Pattern C)) (xs : List A) → FitsLeft o xs → ends (left_behind test xs o) ≡ true
+    fits_run : (o : Option (Pattern C)) (xs : List A) → FitsLeft o xs → ends (derivative_by test xs o) ≡ true
     fits_run None xs h = absurd h
     fits_run (Some p) [] h = fits_end p h
-    fits_run (Some p) (x ∷ xs) h = fits_run (left test x p) xs (onward x p xs h)
+    fits_run (Some p) (x ∷ xs) h = fits_run (derivative test x p) xs (onward x p xs h)
 
     pub fits_test : (p : Pattern C) (xs : List A) → Fits of p xs → fits test p xs ≡ true
     fits_test p xs h = fits_run (Some p) xs h
 
-    fits_behind : (o : Option (Pattern C)) (xs ys : List A) → FitsLeft o (xs ++ ys) → FitsLeft (left_behind test xs o) ys
+    fits_behind : (o : Option (Pattern C)) (xs ys : List A) → FitsLeft o (xs ++ ys) → FitsLeft (derivative_by test xs o) ys
     fits_behind None xs ys h = absurd h
     fits_behind (Some p) [] ys h = h
-    fits_behind (Some p) (x ∷ xs) ys h = fits_behind (left test x p) xs ys (onward x p (xs ++ ys) h)
+    fits_behind (Some p) (x ∷ xs) ys h = fits_behind (derivative test x p) xs ys (onward x p (xs ++ ys) h)
 
     -- where nothing is left, the list begins none that fits
-    pub none_begins : (p : Pattern C) (xs : List A) → left_behind test xs (Some p) ≡ None → Begins of p xs → ⊥
+    pub none_begins : (p : Pattern C) (xs : List A) → derivative_by test xs (Some p) ≡ None → Begins of p xs → ⊥
     none_begins p xs e h = subst (λ (o : Option (Pattern C)). FitsLeft o h.0) e (fits_behind (Some p) xs h.0 h.1)
 
   -- where each class has an element, some list fits each pattern
@@ -187,6 +187,6 @@ module _ {C A : Type 0} (of : C → A → Type 0) where
 
     -- where something is left, the list begins one that fits
     pub some_begins : (test : C → A → Bool) → ((c : C) (x : A) → test c x ≡ true → of c x) → (p q : Pattern C) (xs : List A)
-        → left_behind test xs (Some p) ≡ Some q → Begins of p xs
+        → derivative_by test xs (Some p) ≡ Some q → Begins of p xs
     some_begins test right p q xs e =
         let s = lives q in (s.0, behind_fits test right (Some p) xs s.0 (subst (λ (o : Option (Pattern C)). FitsLeft o s.0) (sym e) s.1))

@@ -6,7 +6,7 @@ pub mod Rows
 pub mod Transitions
 pub mod Meanings
 pub mod Faults
-pub mod Turns
+pub mod Walking
 pub mod Bounds
 pub mod Published
 pub mod Examples

@@ -6,7 +6,7 @@ use Rattle.std.specs.Cmp.Lexicographic.{same_text as text_told, other_text}
 use Rattle.std.proofs.lemmas.Bool.Decides.{nat_tests}
 use Rattle.pi_asmtext.specs.Words.{UnitClass, Sign, Digit, HexDigit, NameUnit, PathUnit, Primitive, Plain, Escapable, unit_test, of_unit, Spells}
 use Rattle.pi_asmtext.specs.Symbols.{Symbol, Token, LineEnd, Class, Ending, Exactly, OneOf, Spelled, OtherDesc, Value, Catch, object, pattern_of, Among, IsToken, Is, same_text}
-use Rattle.pi_asmtext.specs.Checks.{among, spelled, token_test, is_ending, symbol_test}
+use Rattle.pi_asmtext.specs.Checks.{among, is_word, token_test, is_ending, symbol_test}
 use Rattle.pi_asmtext.specs.declared.forms.Word.{Word}
 use Rattle.pi_asmtext.specs.declared.forms.Word.TheVariants as word
 use Rattle.pi_asmtext.proofs.Derivatives.{test_fits, fits_test, lives}
@@ -17,10 +17,10 @@ units_right c u e = e
 units_test : (c : UnitClass) (u : ℕ) → of_unit c u → unit_test c u ≡ true
 units_test c u e = e
 
-pub spelled_means : (k : Word) (us : List ℕ) → spelled k us ≡ true → Spells (pattern_of k) us
+pub spelled_means : (k : Word) (us : List ℕ) → is_word k us ≡ true → Spells (pattern_of k) us
 spelled_means k us e = test_fits of_unit unit_test units_right (pattern_of k) us e
 
-pub means_spelled : (k : Word) (us : List ℕ) → Spells (pattern_of k) us → spelled k us ≡ true
+pub means_spelled : (k : Word) (us : List ℕ) → Spells (pattern_of k) us → is_word k us ≡ true
 means_spelled k us h = fits_test of_unit unit_test units_test (pattern_of k) us h
 
 pub same_means : (us w : List ℕ) → same_text us w ≡ true → us ≡ w
@@ -50,11 +50,11 @@ values = codes "true" ∷ codes "false" ∷ codes "null" ∷ []
 
 value_right : (us : List ℕ) → token_test Value us ≡ true → IsToken Value us
 value_right us e =
-    elim (or_cases (spelled word.Number us) _ e) [
+    elim (or_cases (is_word word.Number us) _ e) [
       | inl a ↦ inl (spelled_means word.Number us a)
-      | inr b ↦ inr (elim (or_cases (spelled word.Text us) _ b) [
+      | inr b ↦ inr (elim (or_cases (is_word word.Text us) _ b) [
         | inl c ↦ inl (spelled_means word.Text us c)
-        | inr d ↦ inr (elim (or_cases (spelled word.Desc us) _ d)
+        | inr d ↦ inr (elim (or_cases (is_word word.Desc us) _ d)
             [ inl f ↦ inl (spelled_means word.Desc us f) | inr g ↦ inr (among_means us values g) ])
       ])
     ]
@@ -64,7 +64,7 @@ token_right Ending us e = absurd (cc)
 token_right (Exactly w) us e = same_means us w e
 token_right (OneOf w ws) us e = among_means us (w ∷ ws) e
 token_right (Spelled k) us e = spelled_means k us e
-token_right OtherDesc us e = let b = and_parts (spelled word.Desc us) _ e in (spelled_means word.Desc us b.0, other_means us b.1)
+token_right OtherDesc us e = let b = and_parts (is_word word.Desc us) _ e in (spelled_means word.Desc us b.0, other_means us b.1)
 token_right Value us e = value_right us e
 token_right Catch us e =
     elim (or_cases (same_text us (codes "any")) _ e) [ inl a ↦ inl (same_means us _ a) | inr b ↦ inr (spelled_means word.Desc us b) ]
@@ -76,11 +76,11 @@ right_token (OneOf w ws) us h = means_among us (w ∷ ws) h
 right_token (Spelled k) us h = means_spelled k us h
 right_token OtherDesc us h = rw (means_spelled word.Desc us h.0, means_other us h.1) refl
 right_token Value us (inl h) = or_left _ _ (means_spelled word.Number us h)
-right_token Value us (inr (inl h)) = or_right (spelled word.Number us) _ (or_left _ _ (means_spelled word.Text us h))
+right_token Value us (inr (inl h)) = or_right (is_word word.Number us) _ (or_left _ _ (means_spelled word.Text us h))
 right_token Value us (inr (inr (inl h))) =
-    or_right (spelled word.Number us) _ (or_right (spelled word.Text us) _ (or_left _ _ (means_spelled word.Desc us h)))
+    or_right (is_word word.Number us) _ (or_right (is_word word.Text us) _ (or_left _ _ (means_spelled word.Desc us h)))
 right_token Value us (inr (inr (inr h))) =
-    or_right (spelled word.Number us) _ (or_right (spelled word.Text us) _ (or_right (spelled word.Desc us) _ (means_among us values h)))
+    or_right (is_word word.Number us) _ (or_right (is_word word.Text us) _ (or_right (is_word word.Desc us) _ (means_among us values h)))
 right_token Catch us (inl h) = or_left _ _ (means_same us _ h)
 right_token Catch us (inr h) = or_right (same_text us (codes "any")) _ (means_spelled word.Desc us h)
 

@@ -4,10 +4,10 @@ use Rattle.std.specs.Prelude.{map, codes, not, ◌&&◌, is_none, option_map}
 use Rattle.std.proofs.lemmas.Bool.{and_parts, not-true}
 use Rattle.std.specs.Cmp.Lexicographic.{same_text as text_told}
 use Rattle.pi_asmtext.specs.Patterns.{Empty, any_of}
-use Rattle.pi_asmtext.specs.Lefts.{left, either_left}
+use Rattle.pi_asmtext.specs.Derivatives.{derivative, either_left}
 use Rattle.pi_asmtext.specs.Symbols.{Token, LineEnd, same_text, form_in}
 use Rattle.pi_asmtext.specs.Grammar.{operands, kinds_of, row_line, instruction_line}
-use Rattle.pi_asmtext.specs.Checks.{form_of, symbol_test, spelled}
+use Rattle.pi_asmtext.specs.Checks.{form_of, symbol_test, is_word}
 use Rattle.pi_asmtext.specs.declared.forms.Word.TheVariants as word
 use Rattle.pi_asmtext.specs.declared.forms.Form.{Form}
 use Rattle.pi_asmtext.specs.declared.table.TheConstants.{INSTRUCTIONS}
@@ -24,7 +24,7 @@ module _ {R : Type 0} (called : R → List ℕ) (form : R → Form) where
 
   abbrev RowsLeft : List R → List ℕ → Type 0
   RowsLeft rows us =
-      left symbol_test (Token us) (any_of (map (λ r. row_line (called r) (form r)) rows))
+      derivative symbol_test (Token us) (any_of (map (λ r. row_line (called r) (form r)) rows))
       ≡ option_map (λ f. operands (kinds_of f) Empty) (form_in called form rows us)
 
   one_row : (r : R) (us : List ℕ) (t : Bool) → same_text us (called r) ≡ t → RowsLeft (r ∷ []) us
@@ -59,7 +59,7 @@ module _ {R : Type 0} (called : R → List ℕ) (form : R → Form) where
       by true e again = ap is (text_told us (called r) (sym e)) ∙ (and_parts _ _ all).0
       by false e again = again (and_parts _ _ all).1 (rw e at found)
 
-  rows_end : (rows : List R) → left symbol_test LineEnd (any_of (map (λ r. row_line (called r) (form r)) rows)) ≡ None
+  rows_end : (rows : List R) → derivative symbol_test LineEnd (any_of (map (λ r. row_line (called r) (form r)) rows)) ≡ None
   rows_end [] = refl
   rows_end (r ∷ []) = refl
   rows_end (r ∷ s ∷ rs) = rows_end (s ∷ rs)
@@ -68,17 +68,17 @@ is_unique : unique (λ r. r.0.now) (λ r. r.1) INSTRUCTIONS ≡ true
 is_unique = refl
 
 -- what is left behind a word that may be the name of an instruction
-pub instruction_left : (us : List ℕ) → left symbol_test (Token us) instruction_line ≡ option_map (λ f. operands (kinds_of f) Empty) (form_of us)
+pub instruction_left : (us : List ℕ) → derivative symbol_test (Token us) instruction_line ≡ option_map (λ f. operands (kinds_of f) Empty) (form_of us)
 unfolding form_of instruction_line
 instruction_left us = rows_left (λ r. r.0.now) (λ r. r.1) INSTRUCTIONS us is_unique
 
-no_labels : all_named (λ r. r.0.now) (λ r. r.1) (λ us. not (spelled word.Label us)) INSTRUCTIONS ≡ true
+no_labels : all_named (λ r. r.0.now) (λ r. r.1) (λ us. not (is_word word.Label us)) INSTRUCTIONS ≡ true
 no_labels = refl
 
 -- the name of an instruction is no label
-pub no_label : (us : List ℕ) (f : Form) → form_of us ≡ Some f → spelled word.Label us ≡ false
+pub no_label : (us : List ℕ) (f : Form) → form_of us ≡ Some f → is_word word.Label us ≡ false
 unfolding form_of
-no_label us f e = not-true (spelled word.Label us) (named (λ r. r.0.now) (λ r. r.1) (λ us. not (spelled word.Label us)) INSTRUCTIONS us f no_labels e)
+no_label us f e = not-true (is_word word.Label us) (named (λ r. r.0.now) (λ r. r.1) (λ us. not (is_word word.Label us)) INSTRUCTIONS us f no_labels e)
 
 -- the words that begin other lines of a method name none
 pub try_is_none : form_of (codes "try") ≡ None
@@ -90,6 +90,6 @@ unfolding form_of
 end_is_none = refl
 
 -- no instruction is an empty line
-pub no_row_ends : left symbol_test LineEnd instruction_line ≡ None
+pub no_row_ends : derivative symbol_test LineEnd instruction_line ≡ None
 unfolding instruction_line
 no_row_ends = rows_end (λ r. r.0.now) (λ r. r.1) INSTRUCTIONS

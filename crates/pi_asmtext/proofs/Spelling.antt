@@ -2,7 +2,7 @@
 use Rattle.std.proofs.Common.{◌≡◌, ℕ, Bool, true, false, List, Some, None, refl, sym, ap, subst, ◌∙◌, suc, ◌+◌, ◌<◌, length, get_or, drop, drop-cons, add-one}
 use Rattle.std.specs.Prelude.{◌==◌, option_map}
 use Rattle.std.proofs.lemmas.Bool.{eqb-true}
-use Rattle.pi_asmtext.specs.Lefts.{left, left_behind}
+use Rattle.pi_asmtext.specs.Derivatives.{derivative, derivative_by}
 use Rattle.pi_asmtext.specs.Words.{unit_test, is_digit, is_hex, is_name_unit, is_path_unit, is_primitive}
 use Rattle.pi_asmtext.specs.Spelling.{rest_of, tail_spell, tail_left, next_of}
 use Rattle.pi_asmtext.specs.declared.words.Member.{Member}
@@ -13,7 +13,7 @@ use Rattle.pi_asmtext.specs.declared.words.Spell.{Spell}
 use Rattle.pi_asmtext.specs.declared.words.Spell.TheVariants as spell
 
 abbrev pub Right : Spell → ℕ → Type 0
-Right s u = left unit_test u (rest_of s) ≡ option_map rest_of (next_of s u)
+Right s u = derivative unit_test u (rest_of s) ≡ option_map rest_of (next_of s u)
 
 -- a state at a unit, for one unit and for all others
 at_by : (s : Spell) (u k : ℕ) (t : Bool) → (u == k) ≡ t → Right s k → ((u == k) ≡ false → Right s u) → Right s u
@@ -91,11 +91,11 @@ steps spell.Hex1 u = (hex_by u (is_hex u) refl).3
 
 -- a step of the walk, by the place in the units
 pub goes_on : (s behind : Spell) (units : List ℕ) (i : ℕ) → i < length units → Some behind ≡ next_of s (get_or units i 0)
-    → left_behind unit_test (drop i units) (Some (rest_of s)) ≡ left_behind unit_test (drop (i + 1) units) (Some (rest_of behind))
+    → derivative_by unit_test (drop i units) (Some (rest_of s)) ≡ derivative_by unit_test (drop (i + 1) units) (Some (rest_of behind))
 goes_on s behind units i lt e =
-    rw (add-one, drop-cons units i 0 lt) (ap (left_behind unit_test (drop (suc i) units)) (steps s (get_or units i 0) ∙ ap (option_map rest_of) (sym e)))
+    rw (add-one, drop-cons units i 0 lt) (ap (derivative_by unit_test (drop (suc i) units)) (steps s (get_or units i 0) ∙ ap (option_map rest_of) (sym e)))
 
 pub stops : (s : Spell) (units : List ℕ) (i : ℕ) → i < length units → None ≡ next_of s (get_or units i 0)
-    → left_behind unit_test (drop i units) (Some (rest_of s)) ≡ None
+    → derivative_by unit_test (drop i units) (Some (rest_of s)) ≡ None
 stops s units i lt e =
-    rw (drop-cons units i 0 lt) (ap (left_behind unit_test (drop (suc i) units)) (steps s (get_or units i 0) ∙ ap (option_map rest_of) (sym e)))
+    rw (drop-cons units i 0 lt) (ap (derivative_by unit_test (drop (suc i) units)) (steps s (get_or units i 0) ∙ ap (option_map rest_of) (sym e)))

@@ -3,10 +3,10 @@ use Rattle.std.proofs.Common.{◌≡◌, ℕ, Bool, true, false, List, [], ◌�
 use Rattle.std.specs.Prelude.{codes, option_map, ◌==◌}
 use Rattle.std.specs.Cmp.Lexicographic.{same_text as text_told}
 use Rattle.std.proofs.lemmas.Bool.{eqb-true}
-use Rattle.pi_asmtext.specs.Lefts.{left, left_behind, ends}
+use Rattle.pi_asmtext.specs.Derivatives.{derivative, derivative_by, ends}
 use Rattle.pi_asmtext.specs.Symbols.{Token, LineEnd, object, same_text}
 use Rattle.pi_asmtext.specs.Words.{unit_test, proto}
-use Rattle.pi_asmtext.specs.Checks.{form_of, symbol_test, spelled}
+use Rattle.pi_asmtext.specs.Checks.{form_of, symbol_test, is_word}
 use Rattle.pi_asmtext.specs.Rest.{rest_of}
 use Rattle.pi_asmtext.specs.Steps.{next_of, is_wanted, end_of}
 use Rattle.pi_asmtext.specs.declared.forms.Word.{Word}
@@ -31,7 +31,7 @@ use Rattle.pi_asmtext.proofs.Rows.{instruction_left, no_label, try_is_none, end_
 
 -- behind a token
 abbrev pub Right : State → List ℕ → Type 0
-Right s us = left symbol_test (Token us) (rest_of s) ≡ option_map rest_of (next_of s us)
+Right s us = derivative symbol_test (Token us) (rest_of s) ≡ option_map rest_of (next_of s us)
 
 -- a state at a token, for one text and for all others
 text_by : (s : State) (us w : List ℕ) (t : Bool) → same_text us w ≡ t → Right s w → (same_text us w ≡ false → Right s us) → Right s us
@@ -63,12 +63,12 @@ line_by false _ p us e = rw e refl
 
 -- an instruction, a label or another word in a method
 form_by : (us : List ℕ) (f : Form) → same_text us (codes "try") ≡ false → same_text us (codes "end") ≡ false
-    → spelled word.Label us ≡ false → form_of us ≡ Some f → Right (state.At place.Body) us
+    → is_word word.Label us ≡ false → form_of us ≡ Some f → Right (state.At place.Body) us
 form_by us form.Nothing a b l e = rw (instruction_left us, e, l, a, b) refl
 form_by us _ a b l e = rw (instruction_left us, e, l, a, b) refl
 
 body_by : (us : List ℕ) (o : Option Form) (t : Bool) → same_text us (codes "try") ≡ false → same_text us (codes "end") ≡ false
-    → form_of us ≡ o → spelled word.Label us ≡ t → Right (state.At place.Body) us
+    → form_of us ≡ o → is_word word.Label us ≡ t → Right (state.At place.Body) us
 body_by us (Some f) t a b e l = form_by us f a b (no_label us f e) e
 body_by us None true a b e l = rw (instruction_left us, e, l, a, b) refl
 body_by us None false a b e l = rw (instruction_left us, e, l, a, b) refl
@@ -90,7 +90,7 @@ place_right place.Tries us =
 place_right place.Body us =
     at_texts (state.At place.Body) us (codes "try" ∷ codes "end" ∷ [])
     (rw (instruction_left (codes "try"), try_is_none) refl, (rw (instruction_left (codes "end"), end_is_none) refl, tt))
-    (λ n. body_by us (form_of us) (spelled word.Label us) n.0 n.1.0 refl refl)
+    (λ n. body_by us (form_of us) (is_word word.Label us) n.0 n.1.0 refl refl)
 
 -- the words of FLAGS
 abbrev flag_words : List (List ℕ)
@@ -118,19 +118,19 @@ methods_at_flags in_method.Start = (refl, (refl, (refl, (refl, (refl, (refl, (re
 methods_at_flags _ = (refl, (refl, (refl, (refl, (refl, (refl, (refl, (refl, (refl, tt)))))))))
 
 -- no prototype is a name
-proto_by : (c : ℕ) (cs : List ℕ) (t : Bool) → (c == 40) ≡ t → spelled word.Proto (c ∷ cs) ≡ true → spelled word.Name (c ∷ cs) ≡ false
+proto_by : (c : ℕ) (cs : List ℕ) (t : Bool) → (c == 40) ≡ t → is_word word.Proto (c ∷ cs) ≡ true → is_word word.Name (c ∷ cs) ≡ false
 proto_by c cs true e h = rw (eqb-true c 40 e) refl
 proto_by c cs false e h =
-    let none : left unit_test c proto ≡ None = rw e refl in
-    absurd (let no : spelled word.Proto (c ∷ cs) ≡ false = ap (λ o. ends (left_behind unit_test cs o)) none in cc)
+    let none : derivative unit_test c proto ≡ None = rw e refl in
+    absurd (let no : is_word word.Proto (c ∷ cs) ≡ false = ap (λ o. ends (derivative_by unit_test cs o)) none in cc)
 
-no_proto : (us : List ℕ) → spelled word.Proto us ≡ true → spelled word.Name us ≡ false
+no_proto : (us : List ℕ) → is_word word.Proto us ≡ true → is_word word.Name us ≡ false
 no_proto [] h = absurd (cc)
 no_proto (c ∷ cs) h = proto_by c cs (c == 40) refl h
 
 -- another token, by the tests of it
 module _ (us : List ℕ) (n : NoFlag us) where
-  field_by : (name type : Bool) (s : FieldSpot) → spelled word.Name us ≡ name → spelled word.Desc us ≡ type → same_text us (codes "=") ≡ false
+  field_by : (name type : Bool) (s : FieldSpot) → is_word word.Name us ≡ name → is_word word.Desc us ≡ type → same_text us (codes "=") ≡ false
       → Right (state.Field s) us
   field_by true true in_field.Start a b q = simp (n.0, n.1, n.2, n.3, n.4, n.5, n.6, n.7, n.8, a, b, q)
   field_by true false in_field.Start a b q = simp (n.0, n.1, n.2, n.3, n.4, n.5, n.6, n.7, n.8, a, b, q)
@@ -138,14 +138,14 @@ module _ (us : List ℕ) (n : NoFlag us) where
   field_by false false in_field.Start a b q = simp (n.0, n.1, n.2, n.3, n.4, n.5, n.6, n.7, n.8, a, b, q)
   field_by _ _ _ a b q = simp (n.0, n.1, n.2, n.3, n.4, n.5, n.6, n.7, n.8, a, b, q)
 
-  method_by : (name proto : Bool) (s : MethodSpot) → spelled word.Name us ≡ name → spelled word.Proto us ≡ proto → Right (state.Method s) us
+  method_by : (name proto : Bool) (s : MethodSpot) → is_word word.Name us ≡ name → is_word word.Proto us ≡ proto → Right (state.Method s) us
   method_by true true s a b = absurd (let no = no_proto us b in cc)
   method_by true false in_method.Start a b = simp (n.0, n.1, n.2, n.3, n.4, n.5, n.6, n.7, n.8, a, b)
   method_by false true in_method.Start a b = simp (n.0, n.1, n.2, n.3, n.4, n.5, n.6, n.7, n.8, a, b)
   method_by false false in_method.Start a b = simp (n.0, n.1, n.2, n.3, n.4, n.5, n.6, n.7, n.8, a, b)
   method_by _ _ _ a b = simp (n.0, n.1, n.2, n.3, n.4, n.5, n.6, n.7, n.8, a, b)
 
-  class_by : (t : Bool) → same_text us object ≡ false → spelled word.Desc us ≡ t → Right state.Class us
+  class_by : (t : Bool) → same_text us object ≡ false → is_word word.Desc us ≡ t → Right state.Class us
   class_by true o d = simp (n.0, n.1, n.2, n.3, n.4, n.5, n.6, n.7, n.8, o, d)
   class_by false o d = simp (n.0, n.1, n.2, n.3, n.4, n.5, n.6, n.7, n.8, o, d)
 
@@ -156,38 +156,38 @@ equals_declares _ = refl
 field_right : (s : FieldSpot) (us : List ℕ) → Right (state.Field s) us
 field_right s us =
     by_flag (state.Field s) us (fields_at_flags s) (λ n. at_text (state.Field s) us (codes "=") (equals_declares s)
-    (λ q. field_by us n (spelled word.Name us) (spelled word.Desc us) s refl refl q))
+    (λ q. field_by us n (is_word word.Name us) (is_word word.Desc us) s refl refl q))
 
 method_right : (s : MethodSpot) (us : List ℕ) → Right (state.Method s) us
 method_right s us =
     by_flag (state.Method s) us (methods_at_flags s)
-    (λ n. method_by us n (spelled word.Name us) (spelled word.Proto us) s refl refl)
+    (λ n. method_by us n (is_word word.Name us) (is_word word.Proto us) s refl refl)
 
 class_right : (us : List ℕ) → Right state.Class us
 class_right us =
     by_flag state.Class us (refl, (refl, (refl, (refl, (refl, (refl, (refl, (refl, (refl, tt)))))))))
-    (λ n. at_text state.Class us object refl (λ o. class_by us n (spelled word.Desc us) o refl))
+    (λ n. at_text state.Class us object refl (λ o. class_by us n (is_word word.Desc us) o refl))
 
 -- among the operands of an instruction: a word of a kind as an operand, as an item and as the first item
 abbrev AtSpot : Spot → List ℕ → Type 0
 AtSpot s us = Right (state.Operands s) us
 
-word_by : (k : Word) (f : Form) (us : List ℕ) (t : Bool) → spelled k us ≡ t → AtSpot (spot.Operand (kind.Word k) f) us
+word_by : (k : Word) (f : Form) (us : List ℕ) (t : Bool) → is_word k us ≡ t → AtSpot (spot.Operand (kind.Word k) f) us
     × AtSpot (spot.ListItem (item.One k) f) us × (same_text us (codes "}") ≡ false → AtSpot (spot.ListFirst (item.One k) f) us)
 word_by k f us true e = (rw e refl, rw e refl, λ a. rw (a, e) refl)
 word_by k f us false e = (rw e refl, rw e refl, λ a. rw (a, e) refl)
 
 -- the number of a pair as an item and as the first item, its label, and the registers of a range
-number_by : (f : Form) (us : List ℕ) (t : Bool) → spelled word.Number us ≡ t
+number_by : (f : Form) (us : List ℕ) (t : Bool) → is_word word.Number us ≡ t
     → AtSpot (spot.ListItem item.Pair f) us × (same_text us (codes "}") ≡ false → AtSpot (spot.ListFirst item.Pair f) us)
 number_by f us true e = (rw e refl, λ a. rw (a, e) refl)
 number_by f us false e = (rw e refl, λ a. rw (a, e) refl)
 
-label_by : (f : Form) (us : List ℕ) (t : Bool) → spelled word.Label us ≡ t → AtSpot (spot.PairLabel f) us
+label_by : (f : Form) (us : List ℕ) (t : Bool) → is_word word.Label us ≡ t → AtSpot (spot.PairLabel f) us
 label_by f us true e = rw e refl
 label_by f us false e = rw e refl
 
-register_by : (f : Form) (us : List ℕ) (t : Bool) → spelled word.Register us ≡ t → AtSpot (spot.RangeFirst f) us × AtSpot (spot.RangeLast f) us
+register_by : (f : Form) (us : List ℕ) (t : Bool) → is_word word.Register us ≡ t → AtSpot (spot.RangeFirst f) us × AtSpot (spot.RangeLast f) us
 register_by f us true e = (rw e refl, rw e refl)
 register_by f us false e = (rw e refl, rw e refl)
 
@@ -196,28 +196,28 @@ after_right form.Nothing us = at_text (state.Operands (spot.After form.Nothing))
 after_right f us = at_text (state.Operands (spot.After f)) us (codes ",") refl (λ a. rw a refl)
 
 -- a closing brace is no word of a kind
-no_word : (k : Word) → spelled k (codes "}") ≡ false
+no_word : (k : Word) → is_word k (codes "}") ≡ false
 no_word word.Name = refl
 no_word _ = refl
 
 spot_right : (s : Spot) (us : List ℕ) → AtSpot s us
-spot_right (spot.Operand (kind.Word k) f) us = (word_by k f us (spelled k us) refl).0
+spot_right (spot.Operand (kind.Word k) f) us = (word_by k f us (is_word k us) refl).0
 spot_right (spot.Operand kind.Range f) us = at_text (state.Operands (spot.Operand kind.Range f)) us (codes "{") refl (λ a. rw a refl)
 spot_right (spot.Operand (kind.List i) f) us = at_text (state.Operands (spot.Operand (kind.List i) f)) us (codes "{") refl (λ a. rw a refl)
 spot_right (spot.After f) us = after_right f us
-spot_right (spot.RangeFirst f) us = (register_by f us (spelled word.Register us) refl).0
+spot_right (spot.RangeFirst f) us = (register_by f us (is_word word.Register us) refl).0
 spot_right (spot.RangeDots f) us = at_text (state.Operands (spot.RangeDots f)) us (codes "..") refl (λ a. rw a refl)
-spot_right (spot.RangeLast f) us = (register_by f us (spelled word.Register us) refl).1
+spot_right (spot.RangeLast f) us = (register_by f us (is_word word.Register us) refl).1
 spot_right (spot.RangeClose f) us = at_text (state.Operands (spot.RangeClose f)) us (codes "}") refl (λ a. rw a refl)
 spot_right (spot.ListFirst (item.One k) f) us =
-    at_text (state.Operands (spot.ListFirst (item.One k) f)) us (codes "}") (rw (no_word k) refl) (word_by k f us (spelled k us) refl).2
+    at_text (state.Operands (spot.ListFirst (item.One k) f)) us (codes "}") (rw (no_word k) refl) (word_by k f us (is_word k us) refl).2
 spot_right (spot.ListFirst item.Pair f) us =
-    at_text (state.Operands (spot.ListFirst item.Pair f)) us (codes "}") refl (number_by f us (spelled word.Number us) refl).1
+    at_text (state.Operands (spot.ListFirst item.Pair f)) us (codes "}") refl (number_by f us (is_word word.Number us) refl).1
 spot_right (spot.ListMore i f) us =
     at_texts (state.Operands (spot.ListMore i f)) us (codes "}" ∷ codes "," ∷ []) (refl, (refl, tt)) (λ n. rw (n.0, n.1.0) refl)
-spot_right (spot.ListItem (item.One k) f) us = (word_by k f us (spelled k us) refl).1
-spot_right (spot.ListItem item.Pair f) us = (number_by f us (spelled word.Number us) refl).0
-spot_right (spot.PairLabel f) us = label_by f us (spelled word.Label us) refl
+spot_right (spot.ListItem (item.One k) f) us = (word_by k f us (is_word k us) refl).1
+spot_right (spot.ListItem item.Pair f) us = (number_by f us (is_word word.Number us) refl).0
+spot_right (spot.PairLabel f) us = label_by f us (is_word word.Label us) refl
 
 -- behind any token
 pub next_right : (s : State) (us : List ℕ) → Right s us
@@ -229,7 +229,7 @@ next_right (state.Method s) us = method_right s us
 next_right (state.Operands s) us = spot_right s us
 
 -- behind a line's end
-pub ends_right : (s : State) → left symbol_test LineEnd (rest_of s) ≡ option_map rest_of (end_of s)
+pub ends_right : (s : State) → derivative symbol_test LineEnd (rest_of s) ≡ option_map rest_of (end_of s)
 ends_right (state.At place.Body) = rw no_row_ends refl
 ends_right (state.Line want.End p) = refl
 ends_right (state.Field in_field.Start) = refl

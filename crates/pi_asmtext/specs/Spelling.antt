@@ -2,7 +2,7 @@
 use Rattle.std.specs.Prelude.{ℕ, ◌==◌, ◌||◌, Option, Some, None, if◌then◌else◌, [], ◌∷◌}
 use Rattle.std.specs.Bool.{then_some}
 use Rattle.pi_asmtext.specs.Patterns.{Pattern, Empty, One, Then, Either, Many, chain, some}
-use Rattle.pi_asmtext.specs.Lefts.{joined}
+use Rattle.pi_asmtext.specs.Derivatives.{sequence}
 use Rattle.pi_asmtext.specs.Words.{UnitClass, NameUnit, PathUnit, Digit, HexDigit, Plain, Escapable, is_digit, is_hex, is_name_unit, is_path_unit, is_primitive, sign, name, desc, proto, number, register, label, four_digits, escape, string}
 use Rattle.pi_asmtext.specs.declared.forms.Word.{Word}
 use Rattle.pi_asmtext.specs.declared.forms.Word.TheVariants as word
@@ -44,7 +44,7 @@ hex_left p = Then (One HexDigit) p
 abbrev pub rest_of : Spell → Pattern UnitClass
 rest_of spell.Done = Empty
 rest_of (spell.First t) = Then desc (tail_left t)
-rest_of (spell.Type t) = joined desc (tail_left t)
+rest_of (spell.Type t) = sequence desc (tail_left t)
 rest_of (spell.Class t) = Then (some (One PathUnit)) (Then (sign 59) (tail_left t))
 rest_of (spell.ClassMore t) = Then (Many (One PathUnit)) (Then (sign 59) (tail_left t))
 rest_of spell.Proto = proto

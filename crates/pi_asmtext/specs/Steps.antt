@@ -24,7 +24,7 @@ use Rattle.pi_asmtext.specs.declared.state.Spot.{Spot}
 use Rattle.pi_asmtext.specs.declared.state.Spot.TheVariants as spot
 use Rattle.pi_asmtext.specs.declared.state.State.{State}
 use Rattle.pi_asmtext.specs.declared.state.State.TheVariants as state
-use Rattle.pi_asmtext.specs.Checks.{form_of, spelled, token_test}
+use Rattle.pi_asmtext.specs.Checks.{form_of, is_word, token_test}
 
 abbrev pub tries_next : List ℕ → Option State
 tries_next us =
@@ -58,7 +58,7 @@ or_tries None us = tries_next us
 or_tries (Some f) us = Some (state.Operands (first_spot f))
 
 abbrev pub body_next : List ℕ → Option State
-body_next us = if spelled word.Label us then Some (state.Line want.End place.Body) else or_tries (form_of us) us
+body_next us = if is_word word.Label us then Some (state.Line want.End place.Body) else or_tries (form_of us) us
 
 abbrev pub place_next : Place → List ℕ → Option State
 place_next place.Classes us = then_some (same_text us (codes "class")) state.Class
@@ -72,16 +72,16 @@ place_next place.Tries us = tries_next us
 -- a token is the one that a line wants next
 abbrev pub is_wanted : Want → List ℕ → Bool
 is_wanted want.End us = false
-is_wanted want.Desc us = spelled word.Desc us
+is_wanted want.Desc us = is_word word.Desc us
 is_wanted want.Value us = token_test Value us
-is_wanted want.Proto us = spelled word.Proto us
-is_wanted want.ProtoRegs us = spelled word.Proto us
+is_wanted want.Proto us = is_word word.Proto us
+is_wanted want.ProtoRegs us = is_word word.Proto us
 is_wanted want.Regs us = same_text us (codes "regs")
-is_wanted want.Number us = spelled word.Number us
-is_wanted want.From us = spelled word.Label us
-is_wanted want.To us = spelled word.Label us
+is_wanted want.Number us = is_word word.Number us
+is_wanted want.From us = is_word word.Label us
+is_wanted want.To us = is_word word.Label us
 is_wanted want.Catch us = token_test Catch us
-is_wanted want.Handler us = spelled word.Label us
+is_wanted want.Handler us = is_word word.Label us
 
 abbrev pub want_next : Want → Want
 want_next want.ProtoRegs = want.Regs
@@ -109,7 +109,7 @@ abbrev pub class_word : Option Flag → List ℕ → Option State
 class_word (Some f) us = Some state.Class
 class_word None us =
     if same_text us object then Some (state.Line want.End place.Members)
-    else then_some (spelled word.Desc us) (state.Line want.End place.Super)
+    else then_some (is_word word.Desc us) (state.Line want.End place.Super)
 
 abbrev pub field_flag : Flag → FieldSpot → Option State
 field_flag flag_kind.Static in_field.Start = Some (state.Field in_field.Static)
@@ -125,18 +125,18 @@ abbrev pub pick : Bool → Bool → State → State → State → Option State
 pick name type both named typed = if name then Some (if type then both else named) else then_some type typed
 
 abbrev pub field_word : FieldSpot → List ℕ → Option State
-field_word in_field.Start us = then_some (spelled word.Name us) (state.Line want.Desc place.Fields)
+field_word in_field.Start us = then_some (is_word word.Name us) (state.Line want.Desc place.Fields)
 field_word in_field.Plain us =
-    pick (spelled word.Name us) (spelled word.Desc us) (state.Field in_field.PlainBoth) (state.Line want.Desc place.Fields) (state.Line want.End place.Fields)
+    pick (is_word word.Name us) (is_word word.Desc us) (state.Field in_field.PlainBoth) (state.Line want.Desc place.Fields) (state.Line want.End place.Fields)
 field_word in_field.Static us =
-    pick (spelled word.Name us) (spelled word.Desc us) (state.Field in_field.StaticBoth) (state.Field in_field.Named) (state.Line want.End place.Fields)
+    pick (is_word word.Name us) (is_word word.Desc us) (state.Field in_field.StaticBoth) (state.Field in_field.Named) (state.Line want.End place.Fields)
 field_word in_field.Statics us =
-    pick (spelled word.Name us) (spelled word.Desc us) (state.Field in_field.StaticsBoth) (state.Field in_field.Named) (state.Field in_field.Typed)
-field_word in_field.Named us = then_some (spelled word.Desc us) (state.Field in_field.Typed)
-field_word in_field.PlainBoth us = then_some (spelled word.Desc us) (state.Line want.End place.Fields)
-field_word in_field.StaticBoth us = then_some (spelled word.Desc us) (state.Field in_field.Typed)
+    pick (is_word word.Name us) (is_word word.Desc us) (state.Field in_field.StaticsBoth) (state.Field in_field.Named) (state.Field in_field.Typed)
+field_word in_field.Named us = then_some (is_word word.Desc us) (state.Field in_field.Typed)
+field_word in_field.PlainBoth us = then_some (is_word word.Desc us) (state.Line want.End place.Fields)
+field_word in_field.StaticBoth us = then_some (is_word word.Desc us) (state.Field in_field.Typed)
 field_word in_field.StaticsBoth us =
-    if same_text us (codes "=") then Some (state.Line want.Value place.Fields) else then_some (spelled word.Desc us) (state.Field in_field.Typed)
+    if same_text us (codes "=") then Some (state.Line want.Value place.Fields) else then_some (is_word word.Desc us) (state.Field in_field.Typed)
 field_word in_field.Typed us = then_some (same_text us (codes "=")) (state.Line want.Value place.Fields)
 
 abbrev pub field_next : FieldSpot → Option Flag → List ℕ → Option State
@@ -164,20 +164,20 @@ method_typed in_method.Bodiless = Some (state.Line want.Regs place.Body)
 method_typed in_method.Bodilesses = Some (state.Line want.End place.Methods)
 
 abbrev pub method_word : MethodSpot → List ℕ → Option State
-method_word s us = if spelled word.Name us then Some (method_named s) else if spelled word.Proto us then method_typed s else None
+method_word s us = if is_word word.Name us then Some (method_named s) else if is_word word.Proto us then method_typed s else None
 
 abbrev pub method_next : MethodSpot → Option Flag → List ℕ → Option State
 method_next s None us = method_word s us
 method_next s (Some f) us = Some (state.Method (method_flag f s))
 
 abbrev pub operand_next : Kind → Form → List ℕ → Option State
-operand_next (kind.Word k) f us = then_some (spelled k us) (state.Operands (spot.After f))
+operand_next (kind.Word k) f us = then_some (is_word k us) (state.Operands (spot.After f))
 operand_next kind.Range f us = then_some (same_text us (codes "{")) (state.Operands (spot.RangeFirst f))
 operand_next (kind.List i) f us = then_some (same_text us (codes "{")) (state.Operands (spot.ListFirst i f))
 
 abbrev pub item_next : Item → Form → List ℕ → Option State
-item_next (item.One k) f us = then_some (spelled k us) (state.Operands (spot.ListMore (item.One k) f))
-item_next item.Pair f us = then_some (spelled word.Number us) (state.Operands (spot.PairLabel f))
+item_next (item.One k) f us = then_some (is_word k us) (state.Operands (spot.ListMore (item.One k) f))
+item_next item.Pair f us = then_some (is_word word.Number us) (state.Operands (spot.PairLabel f))
 
 abbrev pub after_next : Form → List ℕ → Option State
 after_next f us = if same_text us (codes ",") then option_map (λ s. state.Operands s) (first_operand f) else None
@@ -185,15 +185,15 @@ after_next f us = if same_text us (codes ",") then option_map (λ s. state.Opera
 abbrev pub spot_next : Spot → List ℕ → Option State
 spot_next (spot.Operand k f) us = operand_next k f us
 spot_next (spot.After f) us = after_next f us
-spot_next (spot.RangeFirst f) us = then_some (spelled word.Register us) (state.Operands (spot.RangeDots f))
+spot_next (spot.RangeFirst f) us = then_some (is_word word.Register us) (state.Operands (spot.RangeDots f))
 spot_next (spot.RangeDots f) us = then_some (same_text us (codes "..")) (state.Operands (spot.RangeLast f))
-spot_next (spot.RangeLast f) us = then_some (spelled word.Register us) (state.Operands (spot.RangeClose f))
+spot_next (spot.RangeLast f) us = then_some (is_word word.Register us) (state.Operands (spot.RangeClose f))
 spot_next (spot.RangeClose f) us = then_some (same_text us (codes "}")) (state.Operands (spot.After f))
 spot_next (spot.ListFirst i f) us = if same_text us (codes "}") then Some (state.Operands (spot.After f)) else item_next i f us
 spot_next (spot.ListMore i f) us =
     if same_text us (codes "}") then Some (state.Operands (spot.After f)) else then_some (same_text us (codes ",")) (state.Operands (spot.ListItem i f))
 spot_next (spot.ListItem i f) us = item_next i f us
-spot_next (spot.PairLabel f) us = then_some (spelled word.Label us) (state.Operands (spot.ListMore item.Pair f))
+spot_next (spot.PairLabel f) us = then_some (is_word word.Label us) (state.Operands (spot.ListMore item.Pair f))
 
 -- what is wanted behind a token
 abbrev pub next_of : State → List ℕ → Option State

@@ -2,7 +2,7 @@
 
 ghost use Rattle.std.specs.Prelude.{◌≡◌};
 ghost use Rattle.pi_asmtext.specs.Symbols.{object};
-ghost use Rattle.pi_asmtext.specs.Checks.{spelled};
+ghost use Rattle.pi_asmtext.specs.Checks.{is_word};
 ghost use Rattle.pi_asmtext.specs.Steps.{is_body_flag, flag_of, class_word, field_flag, pick, field_word, field_next, method_flag, method_named, method_typed, method_word, method_next};
 
 use crate::forms::{Word, is_text, is_word};

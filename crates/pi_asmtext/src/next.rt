@@ -1,7 +1,7 @@
 // What is wanted next, behind a token and behind a line's end.
 
 ghost use Rattle.std.specs.Prelude.{◌≡◌};
-ghost use Rattle.pi_asmtext.specs.Lefts.{may_end};
+ghost use Rattle.pi_asmtext.specs.Derivatives.{may_end};
 ghost use Rattle.pi_asmtext.specs.Checks.{token_test};
 ghost use Rattle.pi_asmtext.specs.Rest.{rest_of};
 ghost use Rattle.pi_asmtext.specs.Steps.{tries_next, methods_next, fields_next, members_next, or_tries, body_next, place_next, is_wanted, want_next, next_of, end_of};

@@ -1,7 +1,7 @@
 // Whether units spell a word of the grammar, told by one walk over them.
 
 ghost use Rattle.std.specs.Prelude.{◌≡◌};
-ghost use Rattle.pi_asmtext.specs.Lefts.{fits, may_end};
+ghost use Rattle.pi_asmtext.specs.Derivatives.{fits, may_end};
 ghost use Rattle.pi_asmtext.specs.Words.{unit_test, in_range, is_digit, is_hex, is_name_unit, is_path_unit, is_primitive};
 ghost use Rattle.pi_asmtext.specs.Spelling.{rest_of, tail_spell, next_in_type, next_in_member, next_in_text, next_in_escape, next_of};
 
