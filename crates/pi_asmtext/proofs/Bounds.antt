@@ -1,9 +1,10 @@
 -- Columns behind tokens are at most the length of the text and one.
-use Rattle.std.proofs.Common.{◌≡◌, ℕ, zero, suc, pred, ◌+◌, ◌-◌, ◌/◌, ◌%◌, ◌<◌, ◌≤◌, Bool, true, false, List, [], ◌∷◌, ◌++◌, length, take, refl, subst, arith, length-take, add-one}
+use Rattle.std.proofs.Common.{◌≡◌, ℕ, zero, suc, pred, ◌+◌, ◌-◌, ◌/◌, ◌%◌, ◌<◌, ◌≤◌, Bool, true, false, inl, inr, List, [], ◌∷◌, ◌++◌, length, take, refl, subst, arith, length-take, add-one}
 use Rattle.std.specs.Prelude.{◌==◌, cond, if◌then◌else◌, nat_lt}
 use Rattle.std.specs.Prelude.{not, count_by}
 use Rattle.std.proofs.lemmas.List.Recursion.{is_count_by}
 use Rattle.std.specs.Char.Escape.{encode_utf16}
+use Rattle.std.proofs.lemmas.Bool.{cases_Bool}
 use Rattle.std.proofs.lemmas.Bool.Decides.{nat_tests}
 use Rattle.pi_asmtext.specs.declared.file.Token.{Token}
 use Rattle.pi_asmtext.specs.declared.file.AsmLine.{AsmLine}
@@ -13,19 +14,11 @@ use Rattle.pi_asmtext.specs.Walking.{Small, AllSmall}
 
 width_append : (us vs : List ℕ) → width (us ++ vs) ≡ width us + width vs
 width_append [] vs = omega arith
-width_append (u ∷ us) vs = by (is_second u) (width_append us vs)
-  where
-    by : (t : Bool) → width (us ++ vs) ≡ width us + width vs
-        → (if t then width (us ++ vs) else width (us ++ vs) + 1) ≡ (if t then width us else width us + 1) + width vs
-    by true e = e
-    by false e = omega arith
+width_append (u ∷ us) vs =
+    let e = width_append us vs in elim (cases_Bool (is_second u)) [ inl t ↦ rw t e | inr t ↦ rw t (omega arith) ]
 
 width_one : (u : ℕ) → width (u ∷ []) ≤ 1
-width_one u = by (is_second u)
-  where
-    by : (t : Bool) → (if t then 0 else 0 + 1) ≤ 1
-    by true = omega arith
-    by false = omega arith
+width_one u = elim (cases_Bool (is_second u)) [ inl t ↦ rw t (omega arith) | inr t ↦ rw t (omega arith) ]
 
 second : (k : ℕ) → k < 0x400 → is_second (0xDC00 + k) ≡ true
 second k lt = grind (arith, nat_tests)

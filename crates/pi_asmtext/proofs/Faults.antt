@@ -113,21 +113,16 @@ no_text ps q e more h =
 pub too_short : (ps : List PlacedSymbol) (q : Pattern Class) (last : ℕ) → walk text ps ≡ Ok q → may_end q ≡ false → AtEnd ps last last 1
 too_short ps q last e more = (begins ps q (walk_ok ps text q e), no_text ps q e more, refl, refl)
 
--- reading some symbols and then others
-pub walk_again : (ps qs : List PlacedSymbol) (p : Pattern Class) (q : Pattern Class) → walk p ps ≡ Ok q → walk p (ps ++ qs) ≡ walk q qs
-walk_again [] qs p q e = ap (λ (r : Pattern Class). walk r qs) (ok_same p q e)
-walk_again (x ∷ xs) qs p q e = by (derivative symbol_test x.symbol p) (λ r. walk_again xs qs r q) e
-  where
-    by : (o : Option (Pattern Class)) → ((r : Pattern Class) → walk r xs ≡ Ok q → walk r (xs ++ qs) ≡ walk q qs)
-        → on_left o (x.line, x.column) (λ r. walk r xs) ≡ Ok q → on_left o (x.line, x.column) (λ r. walk r (xs ++ qs)) ≡ walk q qs
-    by None again e = absurd (cc)
-    by (Some r) again e = again r e
+-- reading on behind some symbols
+abbrev pub walk_on : Result (Pattern Class) Place → List PlacedSymbol → Result (Pattern Class) Place
+walk_on (Ok p) ps = walk p ps
+walk_on (Err place) ps = Err place
 
-pub walk_stops : (ps qs : List PlacedSymbol) (p : Pattern Class) (place : Place) → walk p ps ≡ Err place → walk p (ps ++ qs) ≡ Err place
-walk_stops [] qs p place e = absurd (cc)
-walk_stops (x ∷ xs) qs p place e = by (derivative symbol_test x.symbol p) (λ r. walk_stops xs qs r place) e
+pub walk_append : (ps qs : List PlacedSymbol) (p : Pattern Class) → walk p (ps ++ qs) ≡ walk_on (walk p ps) qs
+walk_append [] qs p = refl
+walk_append (x ∷ xs) qs p = by (derivative symbol_test x.symbol p) (walk_append xs qs)
   where
-    by : (o : Option (Pattern Class)) → ((r : Pattern Class) → walk r xs ≡ Err place → walk r (xs ++ qs) ≡ Err place)
-        → on_left o (x.line, x.column) (λ r. walk r xs) ≡ Err place → on_left o (x.line, x.column) (λ r. walk r (xs ++ qs)) ≡ Err place
-    by None again e = e
-    by (Some r) again e = again r e
+    by : (o : Option (Pattern Class)) → ((r : Pattern Class) → walk r (xs ++ qs) ≡ walk_on (walk r xs) qs) → on_left o (x.line, x.column) (λ r. walk r (xs ++ qs))
+        ≡ walk_on (on_left o (x.line, x.column) (λ r. walk r xs)) qs
+    by None again = refl
+    by (Some r) again = again r
