@@ -3,7 +3,7 @@ use Rattle.std.proofs.Common.{◌≡◌, ◌≢◌, ℕ, zero, suc, ◌<◌, ◌
 use Rattle.std.proofs.lemmas.Bool.{cases_Bool, eq-eqb, ne_eqb}
 use Rattle.std.specs.List.{All}
 use Rattle.std.proofs.lemmas.List.Elements.{All-head, All-tail}
-use Rattle.pi_job.specs.Lines.{joined, lines, front_of, behind_of}
+use Rattle.pi_job.specs.Lines.{before_line, lines, front_of, behind_of}
 
 -- the first mark stands at a place
 pub cut_at : (mark : ℕ) (bs : List ℕ) (at : ℕ) → at < length bs → ((k : ℕ) → k < at → slice_index bs k ≢ mark)
@@ -23,9 +23,9 @@ cut_nowhere mark (b ∷ bs) none =
     rw (ne_eqb b mark (none zero (omega arith))) (ap (λ (cs : List ℕ). b ∷ cs) rest.0, rest.1)
 
 joins : (b : ℕ) (bs : List ℕ) → (0 < length bs → lines bs ≡ front_of 10 bs ∷ lines (behind_of 10 bs))
-    → joined b (lines bs) ≡ (b ∷ front_of 10 bs) ∷ lines (behind_of 10 bs)
+    → before_line b (lines bs) ≡ (b ∷ front_of 10 bs) ∷ lines (behind_of 10 bs)
 joins b [] again = refl
-joins b (c ∷ cs) again = ap (joined b) (again (omega arith))
+joins b (c ∷ cs) again = ap (before_line b) (again (omega arith))
 
 -- the first line is what stands before the first newline
 pub lines_cut : (bs : List ℕ) → 0 < length bs → lines bs ≡ front_of 10 bs ∷ lines (behind_of 10 bs)
@@ -37,7 +37,7 @@ pub ended_line : (line rest : List ℕ) → All (λ b. b ≢ 10) line → lines 
 ended_line [] rest none = refl
 ended_line (b ∷ line) rest none =
     rw (ne_eqb b 10 (All-head (λ (c : ℕ). c ≢ 10) b line none))
-    (ap (joined b) (ended_line line rest (All-tail (λ (c : ℕ). c ≢ 10) b line none)))
+    (ap (before_line b) (ended_line line rest (All-tail (λ (c : ℕ). c ≢ 10) b line none)))
 
 -- a last line that no newline ends
 pub last_line : (line : List ℕ) → All (λ b. b ≢ 10) line → 0 < length line → lines line ≡ line ∷ []
@@ -45,4 +45,4 @@ last_line [] none lt = absurd (omega arith)
 last_line (b ∷ []) none lt = rw (ne_eqb b 10 (All-head (λ (c : ℕ). c ≢ 10) b [] none)) refl
 last_line (b ∷ c ∷ line) none lt =
     rw (ne_eqb b 10 (All-head (λ (d : ℕ). d ≢ 10) b (c ∷ line) none))
-    (ap (joined b) (last_line (c ∷ line) (All-tail (λ (d : ℕ). d ≢ 10) b (c ∷ line) none) (omega arith)))
+    (ap (before_line b) (last_line (c ∷ line) (All-tail (λ (d : ℕ). d ≢ 10) b (c ∷ line) none) (omega arith)))
