@@ -16,6 +16,10 @@ pub fails : (base above : ℕ) (bs : List ℕ) (i : ℕ) → i < length bs → d
     → digits_from base above (drop i bs) ≡ None
 fails base above bs i lt e = rw (drop-cons bs i 0) (rw e refl)
 
+-- no digit more
+pub in_limits : (high above : ℕ) → above ≤ high → Some above ≡ if_in_range 0 high above
+in_limits high above le = grind (arith, nat_tests)
+
 -- above the limit no further digits lead below it
 pub too_far : (base above high : ℕ) (bs : List ℕ) → 0 < base → high < above → option_and_then (if_in_range 0 high) (digits_from base above bs) ≡ None
 too_far base above high [] one lt = grind (arith, nat_tests)
