@@ -4,11 +4,11 @@ use Rattle.std.specs.Prelude.{codes}
 use Rattle.pi_asmtext.specs.declared.file.Token.{Token}
 use Rattle.pi_asmtext.specs.declared.file.AsmLine.{AsmLine}
 use Rattle.pi_asmtext.specs.declared.forms.Word.TheVariants as word
-use Rattle.pi_asmtext.specs.Lefts.{fits}
+use Rattle.pi_asmtext.specs.Derivatives.{fits}
 use Rattle.pi_asmtext.specs.Symbols.{Symbol, LineEnd, Token as A}
 use Rattle.pi_asmtext.specs.Grammar.{field_line, bodiless_line, method_line, text, instruction_line}
 use Rattle.pi_asmtext.specs.Places.{width}
-use Rattle.pi_asmtext.specs.Checks.{spelled, symbol_test}
+use Rattle.pi_asmtext.specs.Checks.{is_word, symbol_test}
 use Rattle.pi_asmtext.specs.Tokens.{lines_of, line_count}
 
 abbrev token : ℕ → List ℕ → Token
@@ -34,28 +34,28 @@ counted : (line_count [] ≡ 0) × (line_count (97 ∷ []) ≡ 1) × (line_count
 counted = (refl, refl, refl, refl)
 
 -- words
-names : (spelled word.Name (codes "<init>-$_9") ≡ true) × (spelled word.Name (233 ∷ []) ≡ true) × (spelled word.Name [] ≡ false)
-    × (spelled word.Name (codes "a/b") ≡ false)
+names : (is_word word.Name (codes "<init>-$_9") ≡ true) × (is_word word.Name (233 ∷ []) ≡ true) × (is_word word.Name [] ≡ false)
+    × (is_word word.Name (codes "a/b") ≡ false)
 names = (refl, refl, refl, refl)
 
-descs : (spelled word.Desc (codes "[[La/B;") ≡ true) × (spelled word.Desc (codes "[V") ≡ true) × (spelled word.Desc (codes "L;") ≡ false)
-    × (spelled word.Desc (codes "II") ≡ false) × (spelled word.Desc (codes "[") ≡ false)
+descs : (is_word word.Desc (codes "[[La/B;") ≡ true) × (is_word word.Desc (codes "[V") ≡ true) × (is_word word.Desc (codes "L;") ≡ false)
+    × (is_word word.Desc (codes "II") ≡ false) × (is_word word.Desc (codes "[") ≡ false)
 descs = (refl, refl, refl, refl, refl)
 
-protos : (spelled word.Proto (codes "()V") ≡ true) × (spelled word.Proto (codes "(I[JLa;)La;") ≡ true) × (spelled word.Proto (codes "()") ≡ false)
+protos : (is_word word.Proto (codes "()V") ≡ true) × (is_word word.Proto (codes "(I[JLa;)La;") ≡ true) × (is_word word.Proto (codes "()") ≡ false)
 protos = (refl, refl, refl)
 
-numbers : (spelled word.Number (codes "-007") ≡ true) × (spelled word.Number (codes "-") ≡ false) × (spelled word.Number (codes "1-") ≡ false)
-    × (spelled word.Register (codes "v007") ≡ true) × (spelled word.Register (codes "v") ≡ false)
-    × (spelled word.Label (codes ":a") ≡ true) × (spelled word.Label (codes ":") ≡ false)
+numbers : (is_word word.Number (codes "-007") ≡ true) × (is_word word.Number (codes "-") ≡ false) × (is_word word.Number (codes "1-") ≡ false)
+    × (is_word word.Register (codes "v007") ≡ true) × (is_word word.Register (codes "v") ≡ false)
+    × (is_word word.Label (codes ":a") ≡ true) × (is_word word.Label (codes ":") ≡ false)
 numbers = (refl, refl, refl, refl, refl, refl, refl)
 
-strings : (spelled word.Text (34 ∷ 92 ∷ 110 ∷ 92 ∷ 117 ∷ 48 ∷ 48 ∷ 97 ∷ 70 ∷ 35 ∷ 34 ∷ []) ≡ true) × (spelled word.Text (34 ∷ 97 ∷ []) ≡ false)
-    × (spelled word.Text (34 ∷ 92 ∷ 116 ∷ 34 ∷ []) ≡ false)
+strings : (is_word word.Text (34 ∷ 92 ∷ 110 ∷ 92 ∷ 117 ∷ 48 ∷ 48 ∷ 97 ∷ 70 ∷ 35 ∷ 34 ∷ []) ≡ true) × (is_word word.Text (34 ∷ 97 ∷ []) ≡ false)
+    × (is_word word.Text (34 ∷ 92 ∷ 116 ∷ 34 ∷ []) ≡ false)
 strings = (refl, refl, refl)
 
-operands : (spelled word.Field (codes "La;->x>:I") ≡ true) × (spelled word.Field (codes "La;->:I") ≡ false)
-    × (spelled word.Method (codes "[I-><init>(I)V") ≡ true) × (spelled word.Method (codes "La;->f:I") ≡ false)
+operands : (is_word word.Field (codes "La;->x>:I") ≡ true) × (is_word word.Field (codes "La;->:I") ≡ false)
+    × (is_word word.Method (codes "[I-><init>(I)V") ≡ true) × (is_word word.Method (codes "La;->f:I") ≡ false)
 operands = (refl, refl, refl, refl)
 
 -- a field named static, one of type I that static names, and one with a value

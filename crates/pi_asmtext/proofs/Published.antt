@@ -6,7 +6,7 @@ use Rattle.pi_asmtext.specs.declared.forms.Item.TheVariants as item
 use Rattle.pi_asmtext.specs.declared.forms.Kind.{Kind}
 use Rattle.pi_asmtext.specs.declared.forms.Kind.TheVariants as kind
 use Rattle.pi_asmtext.specs.declared.forms.Form.{Form}
-use Rattle.pi_asmtext.specs.declared.forms.Form.TheVariants as form
+use Rattle.pi_asmtext.specs.declared.forms.Form.TheVariants.{Nothing, One, Two, Three}
 use Rattle.pi_asmtext.specs.declared.table.TheConstants.{INSTRUCTIONS}
 
 abbrev reg : Kind
@@ -29,69 +29,6 @@ callee = kind.Word word.Method
 
 abbrev registers : Kind
 registers = kind.List (item.One word.Register)
-
-abbrev nothing : Form
-nothing = form.Nothing
-
-abbrev register : Form
-register = form.One reg
-
-abbrev two_registers : Form
-two_registers = form.Two reg reg
-
-abbrev three_registers : Form
-three_registers = form.Three reg reg reg
-
-abbrev literal : Form
-literal = form.Two reg num
-
-abbrev two_and_literal : Form
-two_and_literal = form.Three reg reg num
-
-abbrev string : Form
-string = form.Two reg (kind.Word word.Text)
-
-abbrev type : Form
-type = form.Two reg ref
-
-abbrev two_and_type : Form
-two_and_type = form.Three reg reg ref
-
-abbrev branch : Form
-branch = form.One target
-
-abbrev one_and_branch : Form
-one_and_branch = form.Two reg target
-
-abbrev two_and_branch : Form
-two_and_branch = form.Three reg reg target
-
-abbrev static_field : Form
-static_field = form.Two reg member
-
-abbrev instance_field : Form
-instance_field = form.Three reg reg member
-
-abbrev invoke : Form
-invoke = form.Two registers callee
-
-abbrev invoke_range : Form
-invoke_range = form.Two kind.Range callee
-
-abbrev filled : Form
-filled = form.Two registers ref
-
-abbrev filled_range : Form
-filled_range = form.Two kind.Range ref
-
-abbrev fill : Form
-fill = form.Three reg num (kind.List (item.One word.Number))
-
-abbrev packed : Form
-packed = form.Three reg num (kind.List (item.One word.Label))
-
-abbrev sparse : Form
-sparse = form.Two reg (kind.List item.Pair)
 
 -- widths of a copy
 abbrev sizes : List (List ℕ)
@@ -128,49 +65,49 @@ all f names = map (λ n. (n, f)) names
 
 abbrev published : List (List ℕ × Form)
 published =
-    all nothing (codes "nop" ∷ [])
-    ++ all two_registers (stems (codes "move") sizes)
-    ++ all two_registers (stems (codes "move-wide") sizes)
-    ++ all two_registers (stems (codes "move-object") sizes)
-    ++ all register (stems (codes "move-result") kinds)
-    ++ all register (codes "move-exception" ∷ [])
-    ++ all nothing (codes "return-void" ∷ [])
-    ++ all register (stems (codes "return") kinds)
-    ++ all literal (codes "const/4" ∷ codes "const/16" ∷ codes "const" ∷ codes "const/high16" ∷ [])
-    ++ all literal (codes "const-wide/16" ∷ codes "const-wide/32" ∷ codes "const-wide" ∷ codes "const-wide/high16" ∷ [])
-    ++ all string (codes "const-string" ∷ codes "const-string/jumbo" ∷ [])
-    ++ all type (codes "const-class" ∷ [])
-    ++ all register (codes "monitor-enter" ∷ codes "monitor-exit" ∷ [])
-    ++ all type (codes "check-cast" ∷ [])
-    ++ all two_and_type (codes "instance-of" ∷ [])
-    ++ all two_registers (codes "array-length" ∷ [])
-    ++ all type (codes "new-instance" ∷ [])
-    ++ all two_and_type (codes "new-array" ∷ [])
-    ++ all filled (codes "filled-new-array" ∷ [])
-    ++ all filled_range (codes "filled-new-array/range" ∷ [])
-    ++ all fill (codes "fill-array-data" ∷ [])
-    ++ all register (codes "throw" ∷ [])
-    ++ all branch (codes "goto" ∷ codes "goto/16" ∷ codes "goto/32" ∷ [])
-    ++ all packed (codes "packed-switch" ∷ [])
-    ++ all sparse (codes "sparse-switch" ∷ [])
-    ++ all three_registers (codes "cmp-long" ∷ [])
-    ++ all two_and_branch (stems (codes "if") tests)
-    ++ all one_and_branch (map (λ n. n ++ codes "z") (stems (codes "if") tests))
-    ++ all three_registers (stems (codes "aget") accesses)
-    ++ all three_registers (stems (codes "aput") accesses)
-    ++ all instance_field (stems (codes "iget") accesses)
-    ++ all instance_field (stems (codes "iput") accesses)
-    ++ all static_field (stems (codes "sget") accesses)
-    ++ all static_field (stems (codes "sput") accesses)
-    ++ all invoke (stems (codes "invoke") calls)
-    ++ all invoke_range (map (λ n. n ++ codes "/range") (stems (codes "invoke") calls))
-    ++ all two_registers (codes "neg-int" ∷ codes "not-int" ∷ codes "neg-long" ∷ codes "not-long" ∷ [])
-    ++ all two_registers (codes "int-to-long" ∷ codes "long-to-int" ∷ codes "int-to-byte" ∷ codes "int-to-char" ∷ codes "int-to-short" ∷ [])
-    ++ all three_registers (each operations (codes "-int")) ++ all three_registers (each operations (codes "-long"))
-    ++ all two_registers (each operations (codes "-int/2addr")) ++ all two_registers (each operations (codes "-long/2addr"))
-    ++ all two_and_literal (codes "add-int/lit16" ∷ codes "rsub-int" ∷ [])
-    ++ all two_and_literal (each (codes "mul" ∷ codes "div" ∷ codes "rem" ∷ codes "and" ∷ codes "or" ∷ codes "xor" ∷ []) (codes "-int/lit16"))
-    ++ all two_and_literal (each (codes "add" ∷ codes "rsub" ∷ codes "mul" ∷ codes "div" ∷ codes "rem" ∷ codes "and" ∷ codes "or" ∷ codes "xor" ∷ codes "shl" ∷ codes "shr" ∷ codes "ushr" ∷ []) (codes "-int/lit8"))
+    all Nothing (codes "nop" ∷ [])
+    ++ all (Two reg reg) (stems (codes "move") sizes)
+    ++ all (Two reg reg) (stems (codes "move-wide") sizes)
+    ++ all (Two reg reg) (stems (codes "move-object") sizes)
+    ++ all (One reg) (stems (codes "move-result") kinds)
+    ++ all (One reg) (codes "move-exception" ∷ [])
+    ++ all Nothing (codes "return-void" ∷ [])
+    ++ all (One reg) (stems (codes "return") kinds)
+    ++ all (Two reg num) (codes "const/4" ∷ codes "const/16" ∷ codes "const" ∷ codes "const/high16" ∷ [])
+    ++ all (Two reg num) (codes "const-wide/16" ∷ codes "const-wide/32" ∷ codes "const-wide" ∷ codes "const-wide/high16" ∷ [])
+    ++ all (Two reg (kind.Word word.Text)) (codes "const-string" ∷ codes "const-string/jumbo" ∷ [])
+    ++ all (Two reg ref) (codes "const-class" ∷ [])
+    ++ all (One reg) (codes "monitor-enter" ∷ codes "monitor-exit" ∷ [])
+    ++ all (Two reg ref) (codes "check-cast" ∷ [])
+    ++ all (Three reg reg ref) (codes "instance-of" ∷ [])
+    ++ all (Two reg reg) (codes "array-length" ∷ [])
+    ++ all (Two reg ref) (codes "new-instance" ∷ [])
+    ++ all (Three reg reg ref) (codes "new-array" ∷ [])
+    ++ all (Two registers ref) (codes "filled-new-array" ∷ [])
+    ++ all (Two kind.Range ref) (codes "filled-new-array/range" ∷ [])
+    ++ all (Three reg num (kind.List (item.One word.Number))) (codes "fill-array-data" ∷ [])
+    ++ all (One reg) (codes "throw" ∷ [])
+    ++ all (One target) (codes "goto" ∷ codes "goto/16" ∷ codes "goto/32" ∷ [])
+    ++ all (Three reg num (kind.List (item.One word.Label))) (codes "packed-switch" ∷ [])
+    ++ all (Two reg (kind.List item.Pair)) (codes "sparse-switch" ∷ [])
+    ++ all (Three reg reg reg) (codes "cmp-long" ∷ [])
+    ++ all (Three reg reg target) (stems (codes "if") tests)
+    ++ all (Two reg target) (map (λ n. n ++ codes "z") (stems (codes "if") tests))
+    ++ all (Three reg reg reg) (stems (codes "aget") accesses)
+    ++ all (Three reg reg reg) (stems (codes "aput") accesses)
+    ++ all (Three reg reg member) (stems (codes "iget") accesses)
+    ++ all (Three reg reg member) (stems (codes "iput") accesses)
+    ++ all (Two reg member) (stems (codes "sget") accesses)
+    ++ all (Two reg member) (stems (codes "sput") accesses)
+    ++ all (Two registers callee) (stems (codes "invoke") calls)
+    ++ all (Two kind.Range callee) (map (λ n. n ++ codes "/range") (stems (codes "invoke") calls))
+    ++ all (Two reg reg) (codes "neg-int" ∷ codes "not-int" ∷ codes "neg-long" ∷ codes "not-long" ∷ [])
+    ++ all (Two reg reg) (codes "int-to-long" ∷ codes "long-to-int" ∷ codes "int-to-byte" ∷ codes "int-to-char" ∷ codes "int-to-short" ∷ [])
+    ++ all (Three reg reg reg) (each operations (codes "-int")) ++ all (Three reg reg reg) (each operations (codes "-long"))
+    ++ all (Two reg reg) (each operations (codes "-int/2addr")) ++ all (Two reg reg) (each operations (codes "-long/2addr"))
+    ++ all (Three reg reg num) (codes "add-int/lit16" ∷ codes "rsub-int" ∷ [])
+    ++ all (Three reg reg num) (each (codes "mul" ∷ codes "div" ∷ codes "rem" ∷ codes "and" ∷ codes "or" ∷ codes "xor" ∷ []) (codes "-int/lit16"))
+    ++ all (Three reg reg num) (each (codes "add" ∷ codes "rsub" ∷ codes "mul" ∷ codes "div" ∷ codes "rem" ∷ codes "and" ∷ codes "or" ∷ codes "xor" ∷ codes "shl" ∷ codes "shr" ∷ codes "ushr" ∷ []) (codes "-int/lit8"))
 
 table_is : map (λ r. (r.0.now, r.1)) INSTRUCTIONS ≡ published
 table_is = refl

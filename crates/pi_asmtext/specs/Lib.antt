@@ -1,6 +1,6 @@
 -- The definitions that contracts cite.
 pub mod Patterns
-pub mod Lefts
+pub mod Derivatives
 pub mod Tokens
 pub mod Cutting
 pub mod Words

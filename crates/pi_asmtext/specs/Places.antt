@@ -19,33 +19,33 @@ width [] = 0
 width (u ∷ us) = if is_second u then width us else width us + 1
 
 -- a symbol and its place
-pub record Placed : Type 0 where
+pub record PlacedSymbol : Type 0 where
   pub symbol : Symbol
   pub line : ℕ
   pub column : ℕ
 
 -- the symbols of a line: its tokens, and its end right behind the last of them
-abbrev pub placed_in : ℕ → ℕ → List FileToken → List Placed
-placed_in number behind [] = record { symbol = LineEnd; line = number; column = behind } ∷ []
-placed_in number behind (t ∷ ts) =
-    record { symbol = Token t.units; line = number; column = t.column } ∷ placed_in number (t.column + width t.units) ts
+abbrev pub line_symbols : ℕ → ℕ → List FileToken → List PlacedSymbol
+line_symbols number behind [] = record { symbol = LineEnd; line = number; column = behind } ∷ []
+line_symbols number behind (t ∷ ts) =
+    record { symbol = Token t.units; line = number; column = t.column } ∷ line_symbols number (t.column + width t.units) ts
 
 -- the symbols of lines
-abbrev pub placed : List AsmLine → List Placed
-placed [] = []
-placed (l ∷ ls) = placed_in l.number 1 l.tokens ++ placed ls
+abbrev pub file_symbols : List AsmLine → List PlacedSymbol
+file_symbols [] = []
+file_symbols (l ∷ ls) = line_symbols l.number 1 l.tokens ++ file_symbols ls
 
-abbrev pub symbols : List Placed → List Symbol
+abbrev pub symbols : List PlacedSymbol → List Symbol
 symbols ps = map (λ p. p.symbol) ps
 
 -- The place is that of the first symbol with which the symbols up to it begin no text.
-abbrev pub AtSymbol : List Placed → ℕ → ℕ → Type 0
+abbrev pub AtSymbol : List PlacedSymbol → ℕ → ℕ → Type 0
 AtSymbol ps line column =
-    (before : List Placed) × (wrong : Placed) × (behind : List Placed) × (ps ≡ before ++ wrong ∷ behind)
+    (before : List PlacedSymbol) × (wrong : PlacedSymbol) × (behind : List PlacedSymbol) × (ps ≡ before ++ wrong ∷ behind)
     × BeginsText (symbols before) × (BeginsText (symbols (before ++ wrong ∷ [])) → ⊥) × (line ≡ wrong.line) × (column ≡ wrong.column)
 
 -- All symbols begin a text, but are none, and the place is the begin of a line.
-abbrev pub AtEnd : List Placed → ℕ → ℕ → ℕ → Type 0
+abbrev pub AtEnd : List PlacedSymbol → ℕ → ℕ → ℕ → Type 0
 AtEnd ps last line column =
     BeginsText (symbols ps) × (IsText (symbols ps) → ⊥) × (line ≡ last) × (column ≡ 1)
 
@@ -53,4 +53,4 @@ AtEnd ps last line column =
 abbrev pub Wrong : List ℕ → AsmError → Type 0
 Wrong cs OutOfMemory = Unit {0}
 Wrong cs (At line column kind) =
-    (kind ≡ Syntax) × (AtSymbol (placed (lines_of cs)) line column ⊎ AtEnd (placed (lines_of cs)) (line_count cs + 1) line column)
+    (kind ≡ Syntax) × (AtSymbol (file_symbols (lines_of cs)) line column ⊎ AtEnd (file_symbols (lines_of cs)) (line_count cs + 1) line column)

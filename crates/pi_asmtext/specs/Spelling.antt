@@ -1,7 +1,8 @@
 -- The walk over the units of a word: what is wanted next, as the code keeps it, and the pattern that it stands for.
-use Rattle.std.specs.Prelude.{ℕ, ◌==◌, ◌||◌, Bool, Option, Some, None, if◌then◌else◌, [], ◌∷◌}
+use Rattle.std.specs.Prelude.{ℕ, ◌==◌, ◌||◌, Option, Some, None, if◌then◌else◌, [], ◌∷◌}
+use Rattle.std.specs.Bool.{then_some}
 use Rattle.pi_asmtext.specs.Patterns.{Pattern, Empty, One, Then, Either, Many, chain, some}
-use Rattle.pi_asmtext.specs.Lefts.{joined}
+use Rattle.pi_asmtext.specs.Derivatives.{sequence}
 use Rattle.pi_asmtext.specs.Words.{UnitClass, NameUnit, PathUnit, Digit, HexDigit, Plain, Escapable, is_digit, is_hex, is_name_unit, is_path_unit, is_primitive, sign, name, desc, proto, number, register, label, four_digits, escape, string}
 use Rattle.pi_asmtext.specs.declared.forms.Word.{Word}
 use Rattle.pi_asmtext.specs.declared.forms.Word.TheVariants as word
@@ -43,7 +44,7 @@ hex_left p = Then (One HexDigit) p
 abbrev pub rest_of : Spell → Pattern UnitClass
 rest_of spell.Done = Empty
 rest_of (spell.First t) = Then desc (tail_left t)
-rest_of (spell.Type t) = joined desc (tail_left t)
+rest_of (spell.Type t) = sequence desc (tail_left t)
 rest_of (spell.Class t) = Then (some (One PathUnit)) (Then (sign 59) (tail_left t))
 rest_of (spell.ClassMore t) = Then (Many (One PathUnit)) (Then (sign 59) (tail_left t))
 rest_of spell.Proto = proto
@@ -80,54 +81,50 @@ start_of word.Text = spell.Quote
 start_of word.Field = spell.First (tail.Member Field)
 start_of word.Method = spell.First (tail.Member Method)
 
--- what is wanted next, where the unit is the one that is wanted
-abbrev pub when : Bool → Spell → Option Spell
-when is next = if is then Some next else None
-
-abbrev pub behind : Tail → Spell
-behind tail.End = spell.Done
-behind tail.Params = spell.Params
-behind (tail.Member m) = spell.Minus m
+abbrev pub tail_spell : Tail → Spell
+tail_spell tail.End = spell.Done
+tail_spell tail.Params = spell.Params
+tail_spell (tail.Member m) = spell.Minus m
 
 abbrev pub next_in_type : Tail → ℕ → Option Spell
 next_in_type t u =
-    if u == 91 then Some (spell.Type t) else if u == 76 then Some (spell.Class t) else when (is_primitive u) (behind t)
+    if u == 91 then Some (spell.Type t) else if u == 76 then Some (spell.Class t) else then_some (is_primitive u) (tail_spell t)
 
 abbrev pub next_in_member : Member → ℕ → Option Spell
-next_in_member Field u = when (u == 58) (spell.First tail.End)
-next_in_member Method u = when (u == 40) spell.Params
+next_in_member Field u = then_some (u == 58) (spell.First tail.End)
+next_in_member Method u = then_some (u == 40) spell.Params
 
 abbrev pub next_in_text : ℕ → Spell
 next_in_text u = if u == 34 then spell.Done else if u == 92 then spell.Escape else spell.Text
 
 abbrev pub next_in_escape : ℕ → Option Spell
-next_in_escape u = if u == 34 || (u == 92 || u == 110) then Some spell.Text else when (u == 117) spell.Hex4
+next_in_escape u = if u == 34 || (u == 92 || u == 110) then Some spell.Text else then_some (u == 117) spell.Hex4
 
 -- what is wanted behind a unit
 abbrev pub next_of : Spell → ℕ → Option Spell
 next_of spell.Done u = None
 next_of (spell.First t) u = next_in_type t u
 next_of (spell.Type t) u = next_in_type t u
-next_of (spell.Class t) u = when (is_path_unit u) (spell.ClassMore t)
-next_of (spell.ClassMore t) u = if u == 59 then Some (behind t) else when (is_path_unit u) (spell.ClassMore t)
-next_of spell.Proto u = when (u == 40) spell.Params
+next_of (spell.Class t) u = then_some (is_path_unit u) (spell.ClassMore t)
+next_of (spell.ClassMore t) u = if u == 59 then Some (tail_spell t) else then_some (is_path_unit u) (spell.ClassMore t)
+next_of spell.Proto u = then_some (u == 40) spell.Params
 next_of spell.Params u = if u == 41 then Some (spell.First tail.End) else next_in_type tail.Params u
-next_of (spell.Minus m) u = when (u == 45) (spell.Greater m)
-next_of (spell.Greater m) u = when (u == 62) (spell.Member m)
-next_of (spell.Member m) u = when (is_name_unit u) (spell.MemberMore m)
+next_of (spell.Minus m) u = then_some (u == 45) (spell.Greater m)
+next_of (spell.Greater m) u = then_some (u == 62) (spell.Member m)
+next_of (spell.Member m) u = then_some (is_name_unit u) (spell.MemberMore m)
 next_of (spell.MemberMore m) u = if is_name_unit u then Some (spell.MemberMore m) else next_in_member m u
-next_of spell.Label u = when (u == 58) spell.LabelName
-next_of spell.LabelName u = when (is_name_unit u) spell.NameMore
-next_of spell.Name u = when (is_name_unit u) spell.NameMore
-next_of spell.NameMore u = when (is_name_unit u) spell.NameMore
-next_of spell.Number u = if u == 45 then Some spell.Digit else when (is_digit u) spell.DigitMore
-next_of spell.Register u = when (u == 118) spell.Digit
-next_of spell.Digit u = when (is_digit u) spell.DigitMore
-next_of spell.DigitMore u = when (is_digit u) spell.DigitMore
-next_of spell.Quote u = when (u == 34) spell.Text
+next_of spell.Label u = then_some (u == 58) spell.LabelName
+next_of spell.LabelName u = then_some (is_name_unit u) spell.NameMore
+next_of spell.Name u = then_some (is_name_unit u) spell.NameMore
+next_of spell.NameMore u = then_some (is_name_unit u) spell.NameMore
+next_of spell.Number u = if u == 45 then Some spell.Digit else then_some (is_digit u) spell.DigitMore
+next_of spell.Register u = then_some (u == 118) spell.Digit
+next_of spell.Digit u = then_some (is_digit u) spell.DigitMore
+next_of spell.DigitMore u = then_some (is_digit u) spell.DigitMore
+next_of spell.Quote u = then_some (u == 34) spell.Text
 next_of spell.Text u = Some (next_in_text u)
 next_of spell.Escape u = next_in_escape u
-next_of spell.Hex4 u = when (is_hex u) spell.Hex3
-next_of spell.Hex3 u = when (is_hex u) spell.Hex2
-next_of spell.Hex2 u = when (is_hex u) spell.Hex1
-next_of spell.Hex1 u = when (is_hex u) spell.Text
+next_of spell.Hex4 u = then_some (is_hex u) spell.Hex3
+next_of spell.Hex3 u = then_some (is_hex u) spell.Hex2
+next_of spell.Hex2 u = then_some (is_hex u) spell.Hex1
+next_of spell.Hex1 u = then_some (is_hex u) spell.Text

@@ -53,18 +53,18 @@ tokens_from column zero (c ∷ cs) =
     ∷ tokens_from (column + 1) (pred (token_length c cs)) cs
 
 -- a line that has a token, before other lines
-abbrev pub kept : ℕ → List Token → List AsmLine → List AsmLine
-kept number [] others = others
-kept number (t ∷ ts) others = record { number = number; tokens = t ∷ ts } ∷ others
+abbrev pub nonempty_line : ℕ → List Token → List AsmLine → List AsmLine
+nonempty_line number [] others = others
+nonempty_line number (t ∷ ts) others = record { number = number; tokens = t ∷ ts } ∷ others
 
 -- the lines that have a token, numbered from a number on
-abbrev pub numbered : ℕ → List (List ℕ) → List AsmLine
-numbered number [] = []
-numbered number (line ∷ others) = kept number (tokens_from 1 0 line) (numbered (number + 1) others)
+abbrev pub lines_from : ℕ → List (List ℕ) → List AsmLine
+lines_from number [] = []
+lines_from number (line ∷ others) = nonempty_line number (tokens_from 1 0 line) (lines_from (number + 1) others)
 
 -- the lines of a text that have a token
 abbrev pub lines_of : List ℕ → List AsmLine
-lines_of text = numbered 1 (lines text)
+lines_of text = lines_from 1 (lines text)
 
 -- the number of the lines of a text
 abbrev pub line_count : List ℕ → ℕ

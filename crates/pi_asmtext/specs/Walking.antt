@@ -4,11 +4,11 @@ use Rattle.pi_asmtext.specs.declared.file.Token.{Token}
 use Rattle.pi_asmtext.specs.declared.file.AsmLine.{AsmLine}
 use Rattle.pi_asmtext.specs.declared.state.State.{State}
 use Rattle.pi_asmtext.specs.Patterns.{Pattern}
-use Rattle.pi_asmtext.specs.Lefts.{left}
+use Rattle.pi_asmtext.specs.Derivatives.{derivative}
 use Rattle.pi_asmtext.specs.Symbols.{Class}
 use Rattle.pi_asmtext.specs.Checks.{symbol_test}
 use Rattle.pi_asmtext.specs.Rest.{rest_of}
-use Rattle.pi_asmtext.specs.Places.{Placed, width}
+use Rattle.pi_asmtext.specs.Places.{PlacedSymbol, width}
 
 -- a place, by line and column
 abbrev pub Place : Type 0
@@ -19,14 +19,14 @@ abbrev pub on_left : Option (Pattern Class) → Place → (Pattern Class → Res
 on_left None place more = Err place
 on_left (Some p) place more = more p
 
-abbrev pub walk : Pattern Class → List Placed → Result (Pattern Class) Place
+abbrev pub walk : Pattern Class → List PlacedSymbol → Result (Pattern Class) Place
 walk p [] = Ok p
-walk p (x ∷ xs) = on_left (left symbol_test x.symbol p) (x.line, x.column) (λ q. walk q xs)
+walk p (x ∷ xs) = on_left (derivative symbol_test x.symbol p) (x.line, x.column) (λ q. walk q xs)
 
 -- what a state stands for, or a column of that line
-abbrev pub seen : ℕ → Result State ℕ → Result (Pattern Class) Place
-seen number (Ok s) = Ok (rest_of s)
-seen number (Err column) = Err (number, column)
+abbrev pub line_answer : ℕ → Result State ℕ → Result (Pattern Class) Place
+line_answer number (Ok s) = Ok (rest_of s)
+line_answer number (Err column) = Err (number, column)
 
 -- columns behind tokens are numbers of 32 bits
 abbrev pub Small : List Token → Type 0
@@ -38,6 +38,6 @@ AllSmall [] = Unit {0}
 AllSmall (l ∷ ls) = Small l.tokens × AllSmall ls
 
 -- what a state stands for, or a place
-abbrev pub answered : Result State Place → Result (Pattern Class) Place
-answered (Ok s) = Ok (rest_of s)
-answered (Err place) = Err place
+abbrev pub lines_answer : Result State Place → Result (Pattern Class) Place
+lines_answer (Ok s) = Ok (rest_of s)
+lines_answer (Err place) = Err place

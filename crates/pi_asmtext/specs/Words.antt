@@ -13,21 +13,22 @@ pub data UnitClass : Type 0 where
   Plain : UnitClass
   Escapable : UnitClass
 
-abbrev pub within : ℕ → ℕ → ℕ → Bool
-within low high u = nat_le low u && nat_le u high
+-- a unit is from a lowest up to a highest
+abbrev pub in_range : ℕ → ℕ → ℕ → Bool
+in_range low high u = nat_le low u && nat_le u high
 
 -- 0 to 9
 abbrev pub is_digit : ℕ → Bool
-is_digit u = within 48 57 u
+is_digit u = in_range 48 57 u
 
 -- 0 to 9, a to f, A to F
 abbrev pub is_hex : ℕ → Bool
-is_hex u = is_digit u || (within 97 102 u || within 65 70 u)
+is_hex u = is_digit u || (in_range 97 102 u || in_range 65 70 u)
 
 -- a to z, A to Z, 0 to 9, $ - _ < >, and all above 0x7f
 abbrev pub is_name_unit : ℕ → Bool
 is_name_unit u =
-    (within 97 122 u || (within 65 90 u || is_digit u))
+    (in_range 97 122 u || (in_range 65 90 u || is_digit u))
     || ((u == 36 || u == 45) || ((u == 95 || u == 60) || (u == 62 || nat_lt 127 u)))
 
 -- V Z B S C I J

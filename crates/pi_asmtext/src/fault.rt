@@ -3,7 +3,7 @@
 ghost use Rattle.std.specs.Prelude.{◌≡◌};
 ghost use Rattle.pi_asmtext.specs.declared.fault.AsmError.TheVariants.{OutOfMemory};
 
-use std::alloc::{AllocError, AllocFailed};
+use std::alloc::AllocError;
 use thiserror::Error;
 
 /// What is wrong at a place of a text.
@@ -32,14 +32,6 @@ pub enum AsmError {
         column: u32,
         kind: AsmKind,
     },
-}
-
-impl<T: Drop> From<AllocFailed<T>> for AsmError {
-    ghost from_gives = { λ _ e. e ≡ OutOfMemory };
-
-    fn from(_failed: AllocFailed<T>) -> AsmError {
-        AsmError::OutOfMemory
-    }
 }
 
 impl From<AllocError> for AsmError {

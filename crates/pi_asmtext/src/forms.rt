@@ -1,7 +1,7 @@
 // The operands of instructions, and the kinds of words that they are.
 
 ghost use Rattle.std.specs.Prelude.{◌≡◌};
-ghost use Rattle.pi_asmtext.specs.Lefts.{fits};
+ghost use Rattle.pi_asmtext.specs.Derivatives.{fits};
 ghost use Rattle.pi_asmtext.specs.Words.{unit_test};
 ghost use Rattle.pi_asmtext.specs.Symbols.{pattern_of, same_text, form_in};
 ghost use Rattle.pi_asmtext.specs.Spelling.{start_of};

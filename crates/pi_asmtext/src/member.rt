@@ -2,18 +2,11 @@
 
 ghost use Rattle.std.specs.Prelude.{◌≡◌};
 ghost use Rattle.pi_asmtext.specs.Symbols.{object};
-ghost use Rattle.pi_asmtext.specs.Checks.{spelled};
-ghost use Rattle.pi_asmtext.specs.Steps.{go, is_body_flag, flag_of, class_word, field_flag, pick, field_word, field_next, field_end, method_flag, method_named, method_typed, method_word, method_next};
+ghost use Rattle.pi_asmtext.specs.Checks.{is_word};
+ghost use Rattle.pi_asmtext.specs.Steps.{is_body_flag, flag_of, class_word, field_flag, pick, field_word, field_next, method_flag, method_named, method_typed, method_word, method_next};
 
 use crate::forms::{Word, is_text, is_word};
 use crate::state::{FieldSpot, Flag, MethodSpot, Place, State, Want};
-
-/// What is wanted next, None where the token is not the one that is wanted.
-pub(crate) fn go(is: bool, next: State) -> Option<State>
-    ensures { result ≡ go is next }
-{
-    if is { Some(next) } else { None }
-}
 
 fn is_body_flag(units: &[u16]) -> bool
     ensures { result ≡ is_body_flag units.now }
@@ -48,10 +41,7 @@ pub(crate) fn class_word(flag: Option<Flag>, units: &[u16]) -> Option<State>
     if is_text(units, "Ljava/lang/Object;") {
         Some(State::Line(Want::End, Place::Members))
     } else {
-        go(
-            is_word(Word::Desc, units),
-            State::Line(Want::End, Place::Super),
-        )
+        is_word(Word::Desc, units).then_some(State::Line(Want::End, Place::Super))
     }
 }
 
@@ -74,7 +64,7 @@ fn pick(name: bool, kind: bool, both: State, named: State, typed: State) -> Opti
     if name {
         Some(if kind { both } else { named })
     } else {
-        go(kind, typed)
+        kind.then_some(typed)
     }
 }
 
@@ -86,30 +76,24 @@ fn field_word(spot: FieldSpot, units: &[u16]) -> Option<State>
     let named = State::Line(Want::Desc, Place::Fields);
     let typed = State::Line(Want::End, Place::Fields);
     let valued = State::Line(Want::Value, Place::Fields);
-    let field = |spot: FieldSpot| State::Field(spot);
+    let at = |spot: FieldSpot| State::Field(spot);
     match spot {
-        FieldSpot::Start => go(name, named),
-        FieldSpot::Plain => pick(name, desc, field(FieldSpot::PlainBoth), named, typed),
-        FieldSpot::Static => pick(
-            name,
-            desc,
-            field(FieldSpot::StaticBoth),
-            field(FieldSpot::Named),
-            typed,
-        ),
-        FieldSpot::Statics => pick(
-            name,
-            desc,
-            field(FieldSpot::StaticsBoth),
-            field(FieldSpot::Named),
-            field(FieldSpot::Typed),
-        ),
-        FieldSpot::Named => go(desc, field(FieldSpot::Typed)),
-        FieldSpot::PlainBoth => go(desc, typed),
-        FieldSpot::StaticBoth => go(desc, field(FieldSpot::Typed)),
+        FieldSpot::Start => name.then_some(named),
+        FieldSpot::Plain => pick(name, desc, at(FieldSpot::PlainBoth), named, typed),
+        FieldSpot::Static => {
+            let (both, named) = (at(FieldSpot::StaticBoth), at(FieldSpot::Named));
+            pick(name, desc, both, named, typed)
+        }
+        FieldSpot::Statics => {
+            let (both, named) = (at(FieldSpot::StaticsBoth), at(FieldSpot::Named));
+            pick(name, desc, both, named, at(FieldSpot::Typed))
+        }
+        FieldSpot::PlainBoth => desc.then_some(typed),
+        FieldSpot::Typed => is_text(units, "=").then_some(valued),
         FieldSpot::StaticsBoth if is_text(units, "=") => Some(valued),
-        FieldSpot::StaticsBoth => go(desc, field(FieldSpot::Typed)),
-        FieldSpot::Typed => go(is_text(units, "="), valued),
+        FieldSpot::Named | FieldSpot::StaticBoth | FieldSpot::StaticsBoth => {
+            desc.then_some(at(FieldSpot::Typed))
+        }
     }
 }
 
@@ -120,17 +104,6 @@ pub(crate) fn field_next(spot: FieldSpot, flag: Option<Flag>, units: &[u16]) -> 
     match flag {
         Some(flag) => field_flag(flag, spot),
         None => field_word(spot, units),
-    }
-}
-
-/// What is wanted behind the end of the line of a field.
-pub(crate) fn field_end(spot: FieldSpot) -> Option<State>
-    ensures { result ≡ field_end spot }
-{
-    match spot {
-        FieldSpot::PlainBoth | FieldSpot::StaticBoth | FieldSpot::StaticsBoth | FieldSpot::Typed =>
-            Some(State::At(Place::Fields)),
-        _ => None,
     }
 }
 

@@ -1,17 +1,17 @@
 // What is wanted next, behind a token and behind a line's end.
 
 ghost use Rattle.std.specs.Prelude.{◌≡◌};
-ghost use Rattle.pi_asmtext.specs.Lefts.{may_end};
+ghost use Rattle.pi_asmtext.specs.Derivatives.{may_end};
 ghost use Rattle.pi_asmtext.specs.Checks.{token_test};
 ghost use Rattle.pi_asmtext.specs.Rest.{rest_of};
 ghost use Rattle.pi_asmtext.specs.Steps.{tries_next, methods_next, fields_next, members_next, or_tries, body_next, place_next, is_wanted, want_next, next_of, end_of};
 ghost use Rattle.pi_asmtext.specs.declared.forms.Word.TheVariants.{Desc};
 ghost use Rattle.pi_asmtext.specs.Symbols.{Value, Catch};
 
-use crate::forms::{Word, form_of, is_text, is_word};
-use crate::member::{class_word, field_end, field_next, flag_of, go, method_next};
-use crate::operand::{first_spot, spot_end, spot_next};
-use crate::state::{FieldSpot, MethodSpot, Place, State, Want};
+use crate::forms::{Form, Word, form_of, is_text, is_word};
+use crate::member::{class_word, field_next, flag_of, method_next};
+use crate::operand::{first_spot, spot_next};
+use crate::state::{FieldSpot, MethodSpot, Place, Spot, State, Want};
 
 fn tries_next(units: &[u16]) -> Option<State>
     ensures { result ≡ tries_next units.now }
@@ -19,10 +19,7 @@ fn tries_next(units: &[u16]) -> Option<State>
     if is_text(units, "try") {
         Some(State::Line(Want::From, Place::Tries))
     } else {
-        go(
-            is_text(units, "end"),
-            State::Line(Want::End, Place::Methods),
-        )
+        is_text(units, "end").then_some(State::Line(Want::End, Place::Methods))
     }
 }
 
@@ -32,10 +29,7 @@ fn methods_next(units: &[u16]) -> Option<State>
     if is_text(units, "method") {
         Some(State::Method(MethodSpot::Start))
     } else {
-        go(
-            is_text(units, "end"),
-            State::Line(Want::End, Place::Classes),
-        )
+        is_text(units, "end").then_some(State::Line(Want::End, Place::Classes))
     }
 }
 
@@ -75,11 +69,10 @@ fn place_next(place: Place, units: &[u16]) -> Option<State>
     ensures { result ≡ place_next place units.now }
 {
     match place {
-        Place::Classes => go(is_text(units, "class"), State::Class),
-        Place::Super => go(
-            is_text(units, "super"),
-            State::Line(Want::Desc, Place::Members),
-        ),
+        Place::Classes => is_text(units, "class").then_some(State::Class),
+        Place::Super => {
+            is_text(units, "super").then_some(State::Line(Want::Desc, Place::Members))
+        }
         Place::Members => members_next(units),
         Place::Fields => fields_next(units),
         Place::Methods => methods_next(units),
@@ -136,10 +129,9 @@ impl State {
     {
         match self {
             State::At(place) => place_next(place, units),
-            State::Line(want, place) => go(
-                is_wanted(want, units),
-                State::Line(want_next(want), place),
-            ),
+            State::Line(want, place) => {
+                is_wanted(want, units).then_some(State::Line(want_next(want), place))
+            }
             State::Class => class_word(flag_of(units), units),
             State::Field(spot) => field_next(spot, flag_of(units), units),
             State::Method(spot) => method_next(spot, flag_of(units), units),
@@ -153,8 +145,13 @@ impl State {
     {
         match self {
             State::Line(Want::End, place) => Some(State::At(place)),
-            State::Field(spot) => field_end(spot),
-            State::Operands(spot) => spot_end(spot),
+            State::Field(
+                FieldSpot::PlainBoth
+                | FieldSpot::StaticBoth
+                | FieldSpot::StaticsBoth
+                | FieldSpot::Typed,
+            ) => Some(State::At(Place::Fields)),
+            State::Operands(Spot::After(Form::Nothing)) => Some(State::At(Place::Body)),
             _ => None,
         }
     }

@@ -1,13 +1,15 @@
 // Operands of an instruction, token by token.
 
 ghost use Rattle.std.specs.Prelude.{◌≡◌};
-ghost use Rattle.pi_asmtext.specs.Steps.{wanted, first_spot, at_spot, operand_next, item_next, after_next, after_end, spot_next, spot_end};
+ghost use Rattle.std.specs.Bool.{then_some};
+ghost use Rattle.pi_asmtext.specs.declared.state.State.TheVariants.{Operands};
+ghost use Rattle.pi_asmtext.specs.Steps.{first_operand, first_spot, operand_next, item_next, after_next, spot_next};
 
 use crate::forms::{Form, Item, Kind, Word, is_text, is_word};
 use crate::state::{Place, Spot, State};
 
-fn wanted(form: Form) -> Option<Spot>
-    ensures { result ≡ wanted form }
+fn first_operand(form: Form) -> Option<Spot>
+    ensures { result ≡ first_operand form }
 {
     match form {
         Form::Nothing => None,
@@ -21,20 +23,13 @@ fn wanted(form: Form) -> Option<Spot>
 pub(crate) fn first_spot(form: Form) -> Spot
     ensures { result ≡ first_spot form }
 {
-    match wanted(form) {
-        Some(spot) => spot,
-        None => Spot::After(form),
-    }
+    first_operand(form).unwrap_or(Spot::After(form))
 }
 
 fn at_spot(is: bool, next: Spot) -> Option<State>
-    ensures { result ≡ at_spot is next }
+    ensures { result ≡ then_some is (Operands next) }
 {
-    if is {
-        Some(State::Operands(next))
-    } else {
-        None
-    }
+    is.then_some(State::Operands(next))
 }
 
 fn operand_next(kind: Kind, form: Form, units: &[u16]) -> Option<State>
@@ -62,10 +57,7 @@ fn after_next(form: Form, units: &[u16]) -> Option<State>
     if !is_text(units, ",") {
         return None;
     }
-    match wanted(form) {
-        Some(spot) => Some(State::Operands(spot)),
-        None => None,
-    }
+    Some(State::Operands(first_operand(form)?))
 }
 
 /// What is wanted behind a token among the operands.
@@ -79,36 +71,13 @@ pub(crate) fn spot_next(spot: Spot, units: &[u16]) -> Option<State>
         Spot::RangeDots(form) => at_spot(is_text(units, ".."), Spot::RangeLast(form)),
         Spot::RangeLast(form) => at_spot(is_word(Word::Register, units), Spot::RangeClose(form)),
         Spot::RangeClose(form) => at_spot(is_text(units, "}"), Spot::After(form)),
-        Spot::ListFirst(item, form) => {
-            if is_text(units, "}") {
-                Some(State::Operands(Spot::After(form)))
-            } else {
-                item_next(item, form, units)
-            }
-        }
-        Spot::ListMore(item, form) => {
-            if is_text(units, "}") {
-                Some(State::Operands(Spot::After(form)))
-            } else {
-                at_spot(is_text(units, ","), Spot::ListItem(item, form))
-            }
-        }
-        Spot::ListItem(item, form) => item_next(item, form, units),
+        Spot::ListFirst(_, form) if is_text(units, "}") => Some(State::Operands(Spot::After(form))),
+        Spot::ListMore(_, form) if is_text(units, "}") => Some(State::Operands(Spot::After(form))),
+        Spot::ListMore(item, form) => at_spot(is_text(units, ","), Spot::ListItem(item, form)),
+        Spot::ListFirst(item, form) | Spot::ListItem(item, form) => item_next(item, form, units),
         Spot::PairLabel(form) => {
-            at_spot(
-                is_word(Word::Label, units),
-                Spot::ListMore(Item::Pair, form),
-            )
+            let more = Spot::ListMore(Item::Pair, form);
+            at_spot(is_word(Word::Label, units), more)
         }
-    }
-}
-
-/// What is wanted behind the line's end among the operands.
-pub(crate) fn spot_end(spot: Spot) -> Option<State>
-    ensures { result ≡ spot_end spot }
-{
-    match spot {
-        Spot::After(Form::Nothing) => Some(State::At(Place::Body)),
-        _ => None,
     }
 }

@@ -5,9 +5,9 @@ ghost use Rattle.std.specs.Str.{chars};
 ghost use Rattle.pi_asmtext.specs.Grammar.{text as text_pattern, IsText};
 ghost use Rattle.pi_asmtext.specs.Tokens.{lines_of};
 ghost use Rattle.pi_asmtext.specs.declared.fault.AsmError.TheVariants.{OutOfMemory};
-ghost use Rattle.pi_asmtext.specs.Places.{is_second, width, placed_in, placed, symbols, Wrong};
+ghost use Rattle.pi_asmtext.specs.Places.{is_second, width, line_symbols, file_symbols, symbols, Wrong};
 ghost use Rattle.pi_asmtext.specs.Rest.{rest_of};
-ghost use Rattle.pi_asmtext.specs.Walking.{Small, AllSmall, walk, seen, answered};
+ghost use Rattle.pi_asmtext.specs.Walking.{Small, AllSmall, walk, line_answer, lines_answer};
 
 use crate::fault::{AsmError, AsmKind};
 use crate::file::{AsmFile, AsmLine, Token};
@@ -28,7 +28,7 @@ fn width(units: &[u16]) -> usize
     units.iter().filter(|unit| !is_second(**unit)).count()
 }
 
-fn behind(token: &Token) -> u32
+fn column_behind(token: &Token) -> u32
     requires { token.now.column + width token.now.units < 4294967296 }
     ensures { result ≡ token.now.column + width token.now.units }
 {
@@ -38,7 +38,7 @@ fn behind(token: &Token) -> u32
 /// What is wanted behind a line, or the column at which it is wrong.
 fn walk_line(start: State, number: u32, tokens: &[Token]) -> Result<State, u32>
     requires { Small tokens.now }
-    ensures { walk (rest_of start) (placed_in number 1 tokens.now) ≡ seen number result }
+    ensures { walk (rest_of start) (line_symbols number 1 tokens.now) ≡ line_answer number result }
 {
     let mut state = start;
     let mut column = 1u32;
@@ -47,7 +47,7 @@ fn walk_line(start: State, number: u32, tokens: &[Token]) -> Result<State, u32>
             Some(next) => state = next,
             None => return Err(token.column),
         }
-        column = behind(token);
+        column = column_behind(token);
     }
     match state.end() {
         Some(next) => Ok(next),
@@ -58,7 +58,7 @@ fn walk_line(start: State, number: u32, tokens: &[Token]) -> Result<State, u32>
 /// What is wanted behind all lines, or where they are wrong.
 fn walk_lines(lines: &[AsmLine]) -> Result<State, (u32, u32)>
     requires { AllSmall lines.now }
-    ensures { walk text_pattern (placed lines.now) ≡ answered result }
+    ensures { walk text_pattern (file_symbols lines.now) ≡ lines_answer result }
 {
     let mut state = State::At(Place::Classes);
     for line in lines {
@@ -87,8 +87,8 @@ fn wrong(line: u32, column: u32) -> AsmError
 pub fn parse(alloc: Global, text: &str) -> Result<AsmFile, AsmError>
     requires { length text.now < 4294967294 }
     ensures lines { IfOk result (λ file. file ≡ lines_of (chars text.now)) }
-    ensures grammar { IfOk result (λ file. IsText (symbols (placed file))) }
-    ensures complete { IfErr result (λ fault. IsText (symbols (placed (lines_of (chars text.now)))) → fault ≡ OutOfMemory) }
+    ensures grammar { IfOk result (λ file. IsText (symbols (file_symbols file))) }
+    ensures complete { IfErr result (λ fault. IsText (symbols (file_symbols (lines_of (chars text.now)))) → fault ≡ OutOfMemory) }
     ensures wrong { IfErr result (λ fault. Wrong (chars text.now) fault) }
 {
     let cut = cut_text(alloc, text)?;

@@ -2,7 +2,7 @@
 
 ghost use Rattle.std.specs.Prelude.{◌≡◌, ◌+◌, ◌<◌, IfOk, length};
 ghost use Rattle.std.specs.Str.{chars};
-ghost use Rattle.pi_asmtext.specs.Cutting.{at_start, pushed, closed, opened, outside, taken_inside, ended_line, taken, finished};
+ghost use Rattle.pi_asmtext.specs.Cutting.{at_start, with_character, token_end, token_start, unquoted_step, line_step, ended_line, text_step, whole_cut};
 ghost use Rattle.pi_asmtext.specs.Tokens.{lines_of, line_count};
 ghost use Rattle.pi_asmtext.specs.Walking.{AllSmall};
 
@@ -58,7 +58,7 @@ impl Cutter {
 
     // The character belongs to the token that is being read.
     fn push(&mut self, c: char) -> Result<(), AllocError>
-        ensures { IfOk result (λ done. self.new ≡ pushed self.old c) }
+        ensures { IfOk result (λ done. self.new ≡ with_character self.old c) }
     {
         let mut room = [0u16; 2];
         self.units.extend_from_slice(c.encode_utf16(&mut room))?;
@@ -67,7 +67,7 @@ impl Cutter {
 
     // The token that is being read ends, if there is one.
     fn close(&mut self, alloc: Global) -> Result<(), AllocError>
-        ensures { IfOk result (λ done. self.new ≡ closed self.old) }
+        ensures { IfOk result (λ done. self.new ≡ token_end self.old) }
     {
         match self.mode {
             Mode::Between | Mode::Comment => {}
@@ -83,7 +83,7 @@ impl Cutter {
 
     // A token begins with the character.
     fn open(&mut self, alloc: Global, mode: Mode, c: char) -> Result<(), AllocError>
-        ensures { IfOk result (λ done. self.new ≡ opened mode self.old c) }
+        ensures { IfOk result (λ done. self.new ≡ token_start mode self.old c) }
     {
         self.close(alloc)?;
         self.start = self.column;
@@ -92,8 +92,8 @@ impl Cutter {
     }
 
     // A character that is in no string and no comment.
-    fn outside(&mut self, alloc: Global, c: char) -> Result<(), AllocError>
-        ensures { IfOk result (λ done. self.new ≡ outside self.old c) }
+    fn take_unquoted(&mut self, alloc: Global, c: char) -> Result<(), AllocError>
+        ensures { IfOk result (λ done. self.new ≡ unquoted_step self.old c) }
     {
         match c {
             ' ' => self.close(alloc),
@@ -114,10 +114,10 @@ impl Cutter {
 
     // A character of a line.
     fn take_inside(&mut self, alloc: Global, c: char) -> Result<(), AllocError>
-        ensures { IfOk result (λ done. self.new ≡ taken_inside self.old c) }
+        ensures { IfOk result (λ done. self.new ≡ line_step self.old c) }
     {
         match self.mode {
-            Mode::Between | Mode::Run => self.outside(alloc, c),
+            Mode::Between | Mode::Run => self.take_unquoted(alloc, c),
             Mode::Comment => Ok(()),
             Mode::Escaped => {
                 self.mode = Mode::Quoted;
@@ -154,7 +154,7 @@ impl Cutter {
     pub fn take(&mut self, alloc: Global, c: char) -> Result<(), AllocError>
         requires number { self.old.number < 4294967295 }
         requires column { self.old.column < 4294967295 }
-        ensures { IfOk result (λ done. self.new ≡ taken self.old c) }
+        ensures { IfOk result (λ done. self.new ≡ text_step self.old c) }
     {
         if c == '\n' {
             self.end_line(alloc)?;
@@ -170,7 +170,7 @@ impl Cutter {
     // The text ends, and its last line with it.
     fn finish(self, alloc: Global) -> Result<Cut, AllocError>
         requires { self.number < 4294967295 }
-        ensures { IfOk result (λ cut. cut ≡ finished self) }
+        ensures { IfOk result (λ cut. cut ≡ whole_cut self) }
     {
         let behind = if self.column == 1 {
             self.number

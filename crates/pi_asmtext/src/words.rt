@@ -1,9 +1,9 @@
 // Whether units spell a word of the grammar, told by one walk over them.
 
 ghost use Rattle.std.specs.Prelude.{◌≡◌};
-ghost use Rattle.pi_asmtext.specs.Lefts.{fits, may_end};
-ghost use Rattle.pi_asmtext.specs.Words.{unit_test, within, is_digit, is_hex, is_name_unit, is_path_unit, is_primitive};
-ghost use Rattle.pi_asmtext.specs.Spelling.{rest_of, when, behind, next_in_type, next_in_member, next_in_text, next_in_escape, next_of};
+ghost use Rattle.pi_asmtext.specs.Derivatives.{fits, may_end};
+ghost use Rattle.pi_asmtext.specs.Words.{unit_test, in_range, is_digit, is_hex, is_name_unit, is_path_unit, is_primitive};
+ghost use Rattle.pi_asmtext.specs.Spelling.{rest_of, tail_spell, next_in_type, next_in_member, next_in_text, next_in_escape, next_of};
 
 /// What is named behind the type of an operand.
 #[derive(Clone, Copy)]
@@ -51,8 +51,8 @@ pub(crate) enum Spell {
     Hex1,
 }
 
-fn within(low: u16, high: u16, unit: u16) -> bool
-    ensures { result ≡ within low high unit }
+fn in_range(low: u16, high: u16, unit: u16) -> bool
+    ensures { result ≡ in_range low high unit }
 {
     low <= unit && unit <= high
 }
@@ -60,19 +60,19 @@ fn within(low: u16, high: u16, unit: u16) -> bool
 fn is_digit(unit: u16) -> bool
     ensures { result ≡ is_digit unit }
 {
-    within(48, 57, unit)
+    in_range(48, 57, unit)
 }
 
 fn is_hex(unit: u16) -> bool
     ensures { result ≡ is_hex unit }
 {
-    is_digit(unit) || within(97, 102, unit) || within(65, 70, unit)
+    is_digit(unit) || in_range(97, 102, unit) || in_range(65, 70, unit)
 }
 
 fn is_name_unit(unit: u16) -> bool
     ensures { result ≡ is_name_unit unit }
 {
-    let letter = within(97, 122, unit) || within(65, 90, unit) || is_digit(unit);
+    let letter = in_range(97, 122, unit) || in_range(65, 90, unit) || is_digit(unit);
     letter || unit == 36 || unit == 45 || unit == 95 || unit == 60 || unit == 62 || unit > 127
 }
 
@@ -88,14 +88,8 @@ fn is_primitive(unit: u16) -> bool
     matches!(unit, 86 | 90 | 66 | 83 | 67 | 73 | 74)
 }
 
-fn when(is: bool, next: Spell) -> Option<Spell>
-    ensures { result ≡ when is next }
-{
-    if is { Some(next) } else { None }
-}
-
-fn behind(tail: Tail) -> Spell
-    ensures { result ≡ behind tail }
+fn tail_spell(tail: Tail) -> Spell
+    ensures { result ≡ tail_spell tail }
 {
     match tail {
         Tail::End => Spell::Done,
@@ -112,7 +106,7 @@ fn next_in_type(tail: Tail, unit: u16) -> Option<Spell>
     } else if unit == 76 {
         Some(Spell::Class(tail))
     } else {
-        when(is_primitive(unit), behind(tail))
+        is_primitive(unit).then_some(tail_spell(tail))
     }
 }
 
@@ -120,8 +114,8 @@ fn next_in_member(member: Member, unit: u16) -> Option<Spell>
     ensures { result ≡ next_in_member member unit }
 {
     match member {
-        Member::Field => when(unit == 58, Spell::First(Tail::End)),
-        Member::Method => when(unit == 40, Spell::Params),
+        Member::Field => (unit == 58).then_some(Spell::First(Tail::End)),
+        Member::Method => (unit == 40).then_some(Spell::Params),
     }
 }
 
@@ -152,55 +146,36 @@ impl Spell {
     {
         match self {
             Spell::Done => None,
-            Spell::First(tail) => next_in_type(tail, unit),
-            Spell::Type(tail) => next_in_type(tail, unit),
-            Spell::Class(tail) => when(is_path_unit(unit), Spell::ClassMore(tail)),
-            Spell::ClassMore(tail) => {
-                if unit == 59 {
-                    Some(behind(tail))
-                } else {
-                    when(is_path_unit(unit), Spell::ClassMore(tail))
-                }
+            Spell::First(tail) | Spell::Type(tail) => next_in_type(tail, unit),
+            Spell::ClassMore(tail) if unit == 59 => Some(tail_spell(tail)),
+            Spell::Class(tail) | Spell::ClassMore(tail) => {
+                is_path_unit(unit).then_some(Spell::ClassMore(tail))
             }
-            Spell::Proto => when(unit == 40, Spell::Params),
-            Spell::Params => {
-                if unit == 41 {
-                    Some(Spell::First(Tail::End))
-                } else {
-                    next_in_type(Tail::Params, unit)
-                }
+            Spell::Proto => (unit == 40).then_some(Spell::Params),
+            Spell::Params if unit == 41 => Some(Spell::First(Tail::End)),
+            Spell::Params => next_in_type(Tail::Params, unit),
+            Spell::Minus(member) => (unit == 45).then_some(Spell::Greater(member)),
+            Spell::Greater(member) => (unit == 62).then_some(Spell::Member(member)),
+            Spell::MemberMore(member) if !is_name_unit(unit) => next_in_member(member, unit),
+            Spell::Member(member) | Spell::MemberMore(member) => {
+                is_name_unit(unit).then_some(Spell::MemberMore(member))
             }
-            Spell::Minus(member) => when(unit == 45, Spell::Greater(member)),
-            Spell::Greater(member) => when(unit == 62, Spell::Member(member)),
-            Spell::Member(member) => when(is_name_unit(unit), Spell::MemberMore(member)),
-            Spell::MemberMore(member) => {
-                if is_name_unit(unit) {
-                    Some(Spell::MemberMore(member))
-                } else {
-                    next_in_member(member, unit)
-                }
+            Spell::Label => (unit == 58).then_some(Spell::LabelName),
+            Spell::LabelName | Spell::Name | Spell::NameMore => {
+                is_name_unit(unit).then_some(Spell::NameMore)
             }
-            Spell::Label => when(unit == 58, Spell::LabelName),
-            Spell::LabelName => when(is_name_unit(unit), Spell::NameMore),
-            Spell::Name => when(is_name_unit(unit), Spell::NameMore),
-            Spell::NameMore => when(is_name_unit(unit), Spell::NameMore),
-            Spell::Number => {
-                if unit == 45 {
-                    Some(Spell::Digit)
-                } else {
-                    when(is_digit(unit), Spell::DigitMore)
-                }
+            Spell::Number if unit == 45 => Some(Spell::Digit),
+            Spell::Number | Spell::Digit | Spell::DigitMore => {
+                is_digit(unit).then_some(Spell::DigitMore)
             }
-            Spell::Register => when(unit == 118, Spell::Digit),
-            Spell::Digit => when(is_digit(unit), Spell::DigitMore),
-            Spell::DigitMore => when(is_digit(unit), Spell::DigitMore),
-            Spell::Quote => when(unit == 34, Spell::Text),
+            Spell::Register => (unit == 118).then_some(Spell::Digit),
+            Spell::Quote => (unit == 34).then_some(Spell::Text),
             Spell::Text => Some(next_in_text(unit)),
             Spell::Escape => next_in_escape(unit),
-            Spell::Hex4 => when(is_hex(unit), Spell::Hex3),
-            Spell::Hex3 => when(is_hex(unit), Spell::Hex2),
-            Spell::Hex2 => when(is_hex(unit), Spell::Hex1),
-            Spell::Hex1 => when(is_hex(unit), Spell::Text),
+            Spell::Hex4 => is_hex(unit).then_some(Spell::Hex3),
+            Spell::Hex3 => is_hex(unit).then_some(Spell::Hex2),
+            Spell::Hex2 => is_hex(unit).then_some(Spell::Hex1),
+            Spell::Hex1 => is_hex(unit).then_some(Spell::Text),
         }
     }
 

@@ -1,10 +1,11 @@
 -- Lines of arguments, and other lines.
-use Rattle.std.proofs.Common.{◌≡◌, ℕ, List, ◌∷◌, ◌++◌, take, drop, Bool, true, false, refl, sym, ap, ◌∙◌}
+use Rattle.std.proofs.Common.{◌≡◌, ℕ, List, ◌∷◌, ◌++◌, take, drop, true, false, refl, sym, ap, ◌∙◌}
 use Rattle.std.specs.Prelude.{codes}
 use Rattle.std.specs.List.{slice_split}
 use Rattle.std.specs.Prelude.{◌==◌}
 use Rattle.std.specs.Str.{IsUtf8}
 use Rattle.std.specs.Cmp.Lexicographic.{same_text}
+use Rattle.std.proofs.lemmas.Bool.{false_from_ne_true}
 use Rattle.std.proofs.lemmas.Str.{is_utf8-from_IsUtf8}
 use Rattle.std.proofs.lemmas.List.{take-append-drop}
 use Rattle.pi_job.specs.declared.draft.Draft.{Draft}
@@ -19,16 +20,15 @@ is_arg job d line text arg n utf8 same four e behind =
     let rest : arg ≡ drop 4 line = behind ∙ ap (λ (k : ℕ). drop k text) four ∙ ap (drop 4) same in
     rw (is_utf8-from_IsUtf8 line utf8, begins line (drop n text) (sym same ∙ e)) (ap (with_arg d) (sym rest))
 
-by_test : (line : List ℕ) (t : Bool) → same_name (take 4 line) (codes "arg ") ≡ t
-    → ((rest : List ℕ) → line ≡ 97 ∷ 114 ∷ 103 ∷ 32 ∷ rest → ⊥) → same_name (take 4 line) (codes "arg ") ≡ false
-by_test line true e other =
+no_arg : (line : List ℕ) → ((rest : List ℕ) → line ≡ 97 ∷ 114 ∷ 103 ∷ 32 ∷ rest → ⊥) → same_name (take 4 line) (codes "arg ") ≡ false
+no_arg line other =
+    false_from_ne_true (same_name (take 4 line) (codes "arg ")) (λ e.
     let front : take 4 line ≡ codes "arg " = same_text (take 4 line) (codes "arg ") (sym e) in
-    absurd (other (drop 4 line) (sym (take-append-drop 4 line) ∙ ap (λ (xs : List ℕ). xs ++ drop 4 line) front))
-by_test line false e other = e
+    other (drop 4 line) (sym (take-append-drop 4 line) ∙ ap (λ (xs : List ℕ). xs ++ drop 4 line) front))
 
 pub is_other : (job : List ℕ) (d : Draft) (line text : List ℕ) (fields : List (List ℕ)) → IsUtf8 line → text ≡ line
     → ((rest : List ℕ) → text ≡ 97 ∷ 114 ∷ 103 ∷ 32 ∷ rest → ⊥) → fields ≡ slice_split (λ b. b == 32) text
     → line_added job d line ≡ with_fields job d fields
 is_other job d line text fields utf8 same other split =
-    rw (is_utf8-from_IsUtf8 line utf8, by_test line (same_name (take 4 line) (codes "arg ")) refl (λ rest e. other rest (same ∙ e)))
+    rw (is_utf8-from_IsUtf8 line utf8, no_arg line (λ rest e. other rest (same ∙ e)))
     (ap (with_fields job d) (sym (split ∙ ap (slice_split (λ b. b == 32)) same)))

@@ -36,6 +36,19 @@ none_of (Some x) e = cc
 some_is : {A : Type 0} (x z : A) → Some x ≡ Some z → x ≡ z
 some_is x z e = cc
 
+by_option : {A P : Type 0} (o : Option A) → (o ≡ None → P) → ((x : A) → o ≡ Some x → P) → P
+by_option None none some = none refl
+by_option (Some x) none some = some x refl
+
+-- what is answered at the end is that what was said is whole, or that a line is wanting
+end_ok : {B : Type 0} (n : ℕ) (o : Option B) (y : B) → then_on n o (λ w. Ok w) ≡ Ok y → o ≡ Some y
+end_ok n None y e = cc
+end_ok n (Some w) y e = cc
+
+end_err : {B : Type 0} (n m : ℕ) (o : Option B) → then_on n o (λ w. Ok w) ≡ Err m → (o ≡ None) × (m ≡ n)
+end_err n m None e = (refl, cc)
+end_err n m (Some w) e = cc
+
 module _ {A B : Type 0} (says : A → List ℕ → Option A) (whole : A → Option B) where
   -- behind a line that broke a rule nothing is said
   none_said : (ls : List (List ℕ)) → fold (with_line says) None ls ≡ None
@@ -49,15 +62,8 @@ module _ {A B : Type 0} (says : A → List ℕ → Option A) (whole : A → Opti
   told_all ([] ∷ ls) x z n le e =
       rw (← number_next n (length ls) le) (told_all ls x z (next_line n) (next_bound n le) e)
   told_all ((b ∷ bs) ∷ ls) x z n le e =
-      by_line (says x (b ∷ bs)) refl e (λ y said. told_all ls y z (next_line n) (next_bound n le) said)
-    where
-      by_line : (o : Option A) → says x (b ∷ bs) ≡ o → fold (with_line says) (says x (b ∷ bs)) (filter is_line ls) ≡ Some z
-          → ((y : A) → all_said says y ls ≡ Some z
-          → told_from says whole y (next_line n) ls ≡ then_on (number_at (next_line n) (length ls)) (whole z) (λ w. Ok w))
-          → then_on n (says x (b ∷ bs)) (λ y. told_from says whole y (next_line n) ls)
-          ≡ then_on (number_at n (suc (length ls))) (whole z) (λ w. Ok w)
-      by_line None is said again = absurd (none-some z (sym (none_said (filter is_line ls)) ∙ (rw is at said)))
-      by_line (Some y) is said again = rw (is, ← number_next n (length ls) le) (again y (rw is at said))
+      by_option (says x (b ∷ bs)) (λ is. absurd (none-some z (sym (none_said (filter is_line ls)) ∙ (rw is at e))))
+      (λ y is. rw (is, ← number_next n (length ls) le) (told_all ls y z (next_line n) (next_bound n le) (rw is at e)))
 
   -- the line at a place is the first that is not taken
   told_broken : (ls : List (List ℕ)) (k : ℕ) (x z : A) (n : ℕ) → n ≤ 4294967295 → all_said says x (take k ls) ≡ Some z
@@ -69,34 +75,17 @@ module _ {A B : Type 0} (says : A → List ℕ → Option A) (whole : A → Opti
       rw (← number_next n k le) (told_broken ls k x z (next_line n) (next_bound n le) e refused)
   told_broken ((b ∷ bs) ∷ ls) zero x z n le e refused = rw (refused, number_here n le) refl
   told_broken ((b ∷ bs) ∷ ls) (suc k) x z n le e refused =
-      by_line (says x (b ∷ bs)) refl e refused (λ y said none. told_broken ls k y z (next_line n) (next_bound n le) said none)
-    where
-      by_line : (o : Option A) → says x (b ∷ bs) ≡ o → fold (with_line says) (says x (b ∷ bs)) (filter is_line (take k ls)) ≡ Some z
-          → fold (with_line says) (says x (b ∷ bs)) (filter is_line (take (suc k) ls)) ≡ None
-          → ((y : A) → all_said says y (take k ls) ≡ Some z → all_said says y (take (suc k) ls) ≡ None
-          → told_from says whole y (next_line n) ls ≡ Err (number_at (next_line n) k))
-          → then_on n (says x (b ∷ bs)) (λ y. told_from says whole y (next_line n) ls) ≡ Err (number_at n (suc k))
-      by_line None is said none again = absurd (none-some z (sym (none_said (filter is_line (take k ls))) ∙ (rw is at said)))
-      by_line (Some y) is said none again = rw (is, ← number_next n k le) (again y (rw is at said) (rw is at none))
+      by_option (says x (b ∷ bs)) (λ is. absurd (none-some z (sym (none_said (filter is_line (take k ls))) ∙ (rw is at e))))
+      (λ y is. rw (is, ← number_next n k le) (told_broken ls k y z (next_line n) (next_bound n le) (rw is at e) (rw is at refused)))
 
   -- where not all lines are taken, there is a first that is not
   first_broken : (ls : List (List ℕ)) (x : A) → all_said says x ls ≡ None
       → (k : ℕ) × (z : A) × (all_said says x (take k ls) ≡ Some z) × (all_said says x (take (suc k) ls) ≡ None)
   first_broken [] x refused = absurd (none-some x (sym refused))
-  first_broken ([] ∷ ls) x refused =
-      let later = first_broken ls x refused in
-      (suc later.0, later.1, later.2, later.3)
-  first_broken ((b ∷ bs) ∷ ls) x refused = by_line (says x (b ∷ bs)) refl refused (λ y none. first_broken ls y none)
-    where
-      by_line : (o : Option A) → says x (b ∷ bs) ≡ o → fold (with_line says) (says x (b ∷ bs)) (filter is_line ls) ≡ None
-          → ((y : A) → all_said says y ls ≡ None
-          → (k : ℕ) × (z : A) × (all_said says y (take k ls) ≡ Some z) × (all_said says y (take (suc k) ls) ≡ None))
-          → (k : ℕ) × (z : A) × (all_said says x (take k ((b ∷ bs) ∷ ls)) ≡ Some z)
-          × (all_said says x (take (suc k) ((b ∷ bs) ∷ ls)) ≡ None)
-      by_line None is none again = (0, x, refl, is)
-      by_line (Some y) is none again =
-          let later = again y (rw is at none) in
-          (suc later.0, later.1, rw is later.2, rw is later.3)
+  first_broken ([] ∷ ls) x refused = let later = first_broken ls x refused in (suc later.0, later.1, later.2, later.3)
+  first_broken ((b ∷ bs) ∷ ls) x refused =
+      by_option (says x (b ∷ bs)) (λ is. (0, x, refl, is))
+      (λ y is. let later = first_broken ls y (rw is at refused) in (suc later.0, later.1, rw is later.2, rw is later.3))
 
   module _ (start : A) (ls : List (List ℕ)) where
     told : Result B ℕ
@@ -114,41 +103,23 @@ module _ {A B : Type 0} (says : A → List ℕ → Option A) (whole : A → Opti
     of_broken k z e refused = rw (← number_first k) (told_broken ls k start z 1 (lit≤ tt) e refused)
 
     says_whole : (y : B) → told ≡ Ok y → SaysWhole says whole start ls y
-    says_whole y e = by_said (all_said says start ls) refl
-      where
-        by_whole : (z : A) (o : Option B) → whole z ≡ o → then_on (line_at (length ls)) o (λ w. Ok w) ≡ Ok y → whole z ≡ Some y
-        by_whole z None is t = cc
-        by_whole z (Some w) is t = cc
-
-        by_said : (o : Option A) → all_said says start ls ≡ o → SaysWhole says whole start ls y
-        by_said None is =
-            let first = first_broken ls start is in
-            let err : told ≡ Err (line_at first.0) = of_broken first.0 first.1 first.2 first.3 in cc
-        by_said (Some z) is = rw is (by_whole z (whole z) refl (sym (of_all z is) ∙ e))
+    says_whole y e =
+        by_option (all_said says start ls)
+        (λ is. let first = first_broken ls start is in
+        let err : told ≡ Err (line_at first.0) = of_broken first.0 first.1 first.2 first.3 in cc)
+        (λ z is. rw is (end_ok _ (whole z) y (sym (of_all z is) ∙ e)))
 
     whole_told : (y : B) → SaysWhole says whole start ls y → told ≡ Ok y
     whole_told y e =
         option_and_then_some whole (all_said says start ls) y e (λ z said is. of_all z said ∙ rw is refl)
 
     is_first : (n : ℕ) → told ≡ Err n → IsFirstBroken says whole start ls n
-    is_first n e = by_said (all_said says start ls) refl
-      where
-        by_number : (m : ℕ) → told ≡ Err m → n ≡ m
-        by_number m err = cc
-
-        same : (k : ℕ) → told ≡ Err (line_at k) → n ≡ line_at k
-        same k err = by_number (line_at k) err
-
-        by_whole : (z : A) (o : Option B) → whole z ≡ o → all_said says start ls ≡ Some z
-            → told ≡ then_on (line_at (length ls)) o (λ w. Ok w) → IsFirstBroken says whole start ls n
-        by_whole z None is said t = inr (same (length ls) t, (rw said refl, rw (said, is) refl))
-        by_whole z (Some w) is said t = cc
-
-        by_said : (o : Option A) → all_said says start ls ≡ o → IsFirstBroken says whole start ls n
-        by_said None is =
-            let first = first_broken ls start is in
-            inl (first.0, same first.0 (of_broken first.0 first.1 first.2 first.3), (rw first.2 refl, rw (add-one, first.3) refl))
-        by_said (Some z) is = by_whole z (whole z) refl is (of_all z is)
+    is_first n e =
+        by_option (all_said says start ls)
+        (λ is. let first = first_broken ls start is in
+        let err : told ≡ Err (line_at first.0) = of_broken first.0 first.1 first.2 first.3 in
+        inl (first.0, cc, (rw first.2 refl, rw (add-one, first.3) refl)))
+        (λ z is. let t = end_err _ n (whole z) (sym (of_all z is) ∙ e) in inr (t.1, (rw is refl, rw (is, t.0) refl)))
 
     first_told : (n : ℕ) → IsFirstBroken says whole start ls n → told ≡ Err n
     first_told n (inl at) =

@@ -81,18 +81,24 @@ takes_image d = has_place d && ((length d.dexes == 0) && is_none d.heap)
 abbrev pub takes_dex : Draft → Bool
 takes_dex d = has_place d && is_none d.heap
 
+-- the numbers of an image line: its two bases and its steps
+abbrev pub image_numbers : List ℕ → List ℕ → List ℕ → Option (ℕ × ℕ × ℕ)
+image_numbers at load budget =
+    option_and_then (λ a. option_and_then (λ l. option_map (λ n. (a, l, n)) (number_in 1 1000000000 budget)) (number_in 0 4294967295 load))
+    (number_in 0 4294967295 at)
+
 -- the six fields of an image line
 abbrev pub image_of : List ℕ → List ℕ → List ℕ → List ℕ → List ℕ → List ℕ → Option ImageLine
 image_of dex img at load selection budget =
     if is_dex_name dex && (is_img_name img && nat_lt 0 (length selection)) then
-    option_and_then (λ a. option_and_then (λ l. option_map (λ n. record {
+    option_map (λ (n : ℕ × ℕ × ℕ). record {
       dex = dex;
       img = img;
-      at = record { 0 = a };
-      load = record { 0 = l };
+      at = record { 0 = n.0 };
+      load = record { 0 = n.1 };
       selection = selection_named selection;
-      budget = n;
-    }) (number_in 1 1000000000 budget)) (number_in 0 4294967295 load)) (number_in 0 4294967295 at)
+      budget = n.2;
+    }) (image_numbers at load budget)
     else None
 
 -- a job with one more image
@@ -154,16 +160,10 @@ with_six job d kind image = if same_name kind (codes "image") then option_and_th
 
 -- a line by its fields
 abbrev pub with_fields : List ℕ → Draft → List (List ℕ) → Option Draft
-with_fields job d [] = None
-with_fields job d (k ∷ []) = None
 with_fields job d (k ∷ a ∷ []) = with_one d k a
 with_fields job d (k ∷ a ∷ b ∷ []) = with_two d k a b
-with_fields job d (k ∷ a ∷ b ∷ c ∷ []) = None
-with_fields job d (k ∷ a ∷ b ∷ c ∷ e ∷ []) = None
-with_fields job d (k ∷ a ∷ b ∷ c ∷ e ∷ f ∷ []) = None
-with_fields job d (k ∷ a ∷ b ∷ c ∷ e ∷ f ∷ g ∷ []) =
-    with_six job d k (image_of a b c e f g)
-with_fields job d (k ∷ a ∷ b ∷ c ∷ e ∷ f ∷ g ∷ h ∷ more) = None
+with_fields job d (k ∷ a ∷ b ∷ c ∷ e ∷ f ∷ g ∷ []) = with_six job d k (image_of a b c e f g)
+with_fields job d _ = None
 
 -- a line that is UTF-8: the rest behind "arg ", or its fields, which single spaces part
 abbrev pub with_text : List ℕ → Draft → List ℕ → Option Draft

@@ -25,9 +25,9 @@ number_of [] = None
 number_of (b ∷ bs) = if b == 48 then behind_zero bs else digits_from 10 0 (b ∷ bs)
 
 -- a number from a lowest up to a highest
-abbrev pub within : ℕ → ℕ → ℕ → Option ℕ
-within low high n = if nat_le low n && nat_le n high then Some n else None
+abbrev pub if_in_range : ℕ → ℕ → ℕ → Option ℕ
+if_in_range low high n = if nat_le low n && nat_le n high then Some n else None
 
 -- the number that a field is, in a range
 abbrev pub number_in : ℕ → ℕ → List ℕ → Option ℕ
-number_in low high text = option_and_then (within low high) (number_of text)
+number_in low high text = option_and_then (if_in_range low high) (number_of text)

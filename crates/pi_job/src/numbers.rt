@@ -1,7 +1,7 @@
 // Numbers in fields, in both writings.
 
 ghost use Rattle.std.specs.Prelude.{◌≡◌, ◌^◌, ◌<◌, ◌≤◌, option_and_then, option_map, IfSome};
-ghost use Rattle.pi_job.specs.Numbers.{digit_of, digits_from, number_of, number_in, within};
+ghost use Rattle.pi_job.specs.Numbers.{digit_of, digits_from, number_of, number_in, if_in_range};
 
 /// A digit to base 10 or 16.
 fn digit_of(base: u64, b: u8) -> Option<u64>
@@ -22,7 +22,7 @@ fn digits(base: u64, high: u64, text: &[u8]) -> Option<u64>
     requires base { 0 < base }
     requires small { base ≤ 16 }
     requires high { high < 2 ^ 41 }
-    ensures { result ≡ option_and_then (within 0 high) (digits_from base 0 text.now) }
+    ensures { result ≡ option_and_then (if_in_range 0 high) (digits_from base 0 text.now) }
 {
     let mut above = 0u64;
     for b in text {
@@ -40,7 +40,7 @@ fn digits(base: u64, high: u64, text: &[u8]) -> Option<u64>
 /// The number that a field is, where it is not above a limit.
 fn number_to(high: u64, text: &[u8]) -> Option<u64>
     requires { high < 2 ^ 41 }
-    ensures { result ≡ option_and_then (within 0 high) (number_of text.now) }
+    ensures { result ≡ option_and_then (if_in_range 0 high) (number_of text.now) }
 {
     match text {
         [b'0'] => Some(0),

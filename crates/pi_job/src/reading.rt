@@ -2,7 +2,7 @@
 
 ghost use Rattle.std.specs.Prelude.{◌≡◌, ◌==◌, map, IfOk};
 ghost use Rattle.std.specs.List.{slice_split};
-ghost use Rattle.pi_job.specs.Job.{image_of, selection_named, with_one, with_two, with_six, with_fields, with_text, line_added, job_of, SaysJob, IsWrongLine};
+ghost use Rattle.pi_job.specs.Job.{image_numbers, image_of, selection_named, with_one, with_two, with_six, with_fields, with_text, line_added, job_of, SaysJob, IsWrongLine};
 ghost use Rattle.pi_job.specs.Telling.{Answers, OnLine};
 ghost use Rattle.pi_job.specs.Took.{Adds, Took};
 
@@ -32,6 +32,16 @@ fn selection_named(alloc: Global, name: &str) -> Result<Option<Word>, AllocError
     Ok(Some(Word::from_str(alloc, name)?))
 }
 
+/// The two bases and the steps of an image line, None where one of them is no such number.
+fn image_numbers(at: &str, load: &str, budget: &str) -> Option<(u32, u32, u32)>
+    ensures { result ≡ image_numbers at.now load.now budget.now }
+{
+    let at = number_in(0, 4_294_967_295, at.as_bytes())?;
+    let load = number_in(0, 4_294_967_295, load.as_bytes())?;
+    let budget = number_in(1, 1_000_000_000, budget.as_bytes())?;
+    Some((at as u32, load as u32, budget as u32))
+}
+
 /// The image of six fields, None where one of them breaks a rule.
 fn image_of(
     alloc: Global,
@@ -47,22 +57,16 @@ fn image_of(
     if !is_dex_name(dex) || !is_img_name(img) || selection.is_empty() {
         return Ok(None);
     }
-    let Some(at) = number_in(0, 4_294_967_295, at.as_bytes()) else {
-        return Ok(None);
-    };
-    let Some(load) = number_in(0, 4_294_967_295, load.as_bytes()) else {
-        return Ok(None);
-    };
-    let Some(budget) = number_in(1, 1_000_000_000, budget.as_bytes()) else {
+    let Some((at, load, budget)) = image_numbers(at, load, budget) else {
         return Ok(None);
     };
     Ok(Some(ImageLine {
         dex: Word::from_str(alloc, dex)?,
         img: Word::from_str(alloc, img)?,
-        at: Addr(at as u32),
-        load: Addr(load as u32),
+        at: Addr(at),
+        load: Addr(load),
         selection: selection_named(alloc, selection)?,
-        budget: budget as u32,
+        budget,
     }))
 }
 
@@ -71,18 +75,16 @@ fn add_one(alloc: Global, draft: &mut Draft, kind: &str, value: &str) -> Result<
     ensures { Took (with_one draft.old kind.now value.now) draft.new result }
 {
     if kind == "dex" {
-        return draft.add_dex(alloc, value);
+        draft.add_dex(alloc, value)
+    } else if kind == "frames" {
+        Ok(draft.add_frames(value))
+    } else if kind == "steps" {
+        Ok(draft.add_steps(value))
+    } else if kind == "main" {
+        draft.add_main(alloc, value)
+    } else {
+        Ok(false)
     }
-    if kind == "frames" {
-        return Ok(draft.add_frames(value));
-    }
-    if kind == "steps" {
-        return Ok(draft.add_steps(value));
-    }
-    if kind == "main" {
-        return draft.add_main(alloc, value);
-    }
-    Ok(false)
 }
 
 /// Adds a line of a kind and two fields; false where it breaks a rule.

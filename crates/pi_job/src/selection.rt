@@ -21,10 +21,7 @@ fn class_called(prog: &Prog, units: &[u16]) -> Option<ClassNo>
     ensures value { option_map (λ c. c.0) result ≡ class_called prog.now units.now }
     ensures below { IfSome result (λ c. c.0 < length prog.now.classes) }
 {
-    match prog.find_name(units) {
-        Some(name) => prog.find_class(name),
-        None => None,
-    }
+    prog.find_class(prog.find_name(units)?)
 }
 
 /// The class of the file that a line names.
@@ -42,11 +39,7 @@ fn class_on(
     let Some(class) = class_called(prog, units.as_slice()) else {
         return Ok(None);
     };
-    if prog.class(class).file == file {
-        Ok(Some(class))
-    } else {
-        Ok(None)
-    }
+    Ok((prog.class(class).file == file).then_some(class))
 }
 
 /// The classes that a selection text names, in the order of its lines.

@@ -1,5 +1,5 @@
 use Rattle.std.proofs.Common.{◌∙◌, sym, ap}
-use Rattle.pi_asmtext.specs.Lefts.{ends}
+use Rattle.pi_asmtext.specs.Derivatives.{ends}
 use Rattle.pi_asmtext.proofs.Spelling.{goes_on, stops}
 use Rattle.pi_asmtext.proofs.words.spells.Goals as goal
 

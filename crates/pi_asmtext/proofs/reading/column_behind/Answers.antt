@@ -2,8 +2,8 @@ use Rattle.std.proofs.Common.{◌≡◌, ℕ, ◌+◌, ap, sym, ◌∙◌, arith
 use Rattle.std.specs.Prelude.{not, count_by}
 use Rattle.pi_asmtext.specs.Places.{is_second, width}
 use Rattle.pi_asmtext.proofs.Bounds.{width_counts}
-use Rattle.pi_asmtext.proofs.reading.behind.Goals as goal
-use Rattle.pi_asmtext.proofs.reading.behind.Goals.{After-width}
+use Rattle.pi_asmtext.proofs.reading.column_behind.Goals as goal
+use Rattle.pi_asmtext.proofs.reading.column_behind.Goals.{After-width}
 
 wide : (c : After-width) → c.width.result ≡ width c.args.token.now.units
 wide c = c.width.ensures ∙ ap (count_by (λ u. not (is_second u))) c.as_slice.ensures ∙ sym (width_counts c.args.token.now.units)

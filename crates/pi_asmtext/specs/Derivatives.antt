@@ -3,17 +3,17 @@ use Rattle.std.specs.Prelude.{Bool, true, false, ◌&&◌, ◌||◌, List, [], �
 use Rattle.pi_asmtext.specs.Patterns.{Pattern, Empty, One, Then, Either, Many}
 
 -- one pattern and then another, without empty parts
-abbrev pub joined : {C : Type 0} → Pattern C → Pattern C → Pattern C
-joined Empty q = q
-joined (One c) q = Then (One c) q
-joined (Then p r) q = Then p (joined r q)
-joined (Either p r) q = Then (Either p r) q
-joined (Many p) q = Then (Many p) q
+abbrev pub sequence : {C : Type 0} → Pattern C → Pattern C → Pattern C
+sequence Empty q = q
+sequence (One c) q = Then (One c) q
+sequence (Then p r) q = Then p (sequence r q)
+sequence (Either p r) q = Then (Either p r) q
+sequence (Many p) q = Then (Many p) q
 
 -- what is left of one pattern, and then another
 abbrev pub then_left : {C : Type 0} → Option (Pattern C) → Pattern C → Option (Pattern C)
 then_left None q = None
-then_left (Some p) q = Some (joined p q)
+then_left (Some p) q = Some (sequence p q)
 
 -- what is left of either of two patterns
 abbrev pub either_left : {C : Type 0} → Option (Pattern C) → Option (Pattern C) → Option (Pattern C)
@@ -30,19 +30,19 @@ may_end (Either p q) = may_end p || may_end q
 may_end (Many p) = true
 
 -- what is left behind an element, None where no list that fits begins with it
-abbrev pub left : {C A : Type 0} → (C → A → Bool) → A → Pattern C → Option (Pattern C)
-left test x Empty = None
-left test x (One c) = if test c x then Some Empty else None
-left test x (Then p q) =
-    if may_end p then either_left (then_left (left test x p) q) (left test x q) else then_left (left test x p) q
-left test x (Either p q) = either_left (left test x p) (left test x q)
-left test x (Many p) = then_left (left test x p) (Many p)
+abbrev pub derivative : {C A : Type 0} → (C → A → Bool) → A → Pattern C → Option (Pattern C)
+derivative test x Empty = None
+derivative test x (One c) = if test c x then Some Empty else None
+derivative test x (Then p q) =
+    if may_end p then either_left (then_left (derivative test x p) q) (derivative test x q) else then_left (derivative test x p) q
+derivative test x (Either p q) = either_left (derivative test x p) (derivative test x q)
+derivative test x (Many p) = then_left (derivative test x p) (Many p)
 
 -- what is left behind a list
-abbrev pub left_behind : {C A : Type 0} → (C → A → Bool) → List A → Option (Pattern C) → Option (Pattern C)
-left_behind test xs None = None
-left_behind test [] (Some p) = Some p
-left_behind test (x ∷ xs) (Some p) = left_behind test xs (left test x p)
+abbrev pub derivative_by : {C A : Type 0} → (C → A → Bool) → List A → Option (Pattern C) → Option (Pattern C)
+derivative_by test xs None = None
+derivative_by test [] (Some p) = Some p
+derivative_by test (x ∷ xs) (Some p) = derivative_by test xs (derivative test x p)
 
 -- what is left may end
 abbrev pub ends : {C : Type 0} → Option (Pattern C) → Bool
@@ -51,4 +51,4 @@ ends (Some p) = may_end p
 
 -- the list fits, as a test
 abbrev pub fits : {C A : Type 0} → (C → A → Bool) → Pattern C → List A → Bool
-fits test p xs = ends (left_behind test xs (Some p))
+fits test p xs = ends (derivative_by test xs (Some p))
