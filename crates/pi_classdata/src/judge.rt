@@ -9,7 +9,8 @@ ghost use Rattle.pi_format.specs.Rules.ClassData.{owner, is_field_of, is_method_
 ghost use Rattle.pi_format.specs.declared.lists.MemberList.TheVariants.{StaticFields, InstanceFields, DirectMethods, VirtualMethods};
 
 use crate::flags::AccessFlags;
-use pi_dexraw::{Member, Raw, word};
+use pi_bytes::numbers::word;
+use pi_dexraw::{Member, Raw};
 use pi_format::lists::MemberList;
 use std::marker::Model;
 

@@ -197,7 +197,7 @@ fn class(
     requires says { SaysClass names.now.file i }
     ensures { IfOk result (λ class. class ≡ class_desc names.now number i) }
 {
-    let view = names.raw();
+    let raw = names.raw();
     let def = raw.class_entry(i);
     let faces = raw.faces(alloc, i)?;
     let values = class_values(alloc, raw, rows, i)?;

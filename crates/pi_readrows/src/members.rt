@@ -16,7 +16,6 @@ use pi_classdata::{
     AccessFlags, ClassRows, MemberRow, RowTable, class_rows, class_values, read_rows, values_rule,
 };
 use pi_dexraw::Raw;
-use pi_dexview::View;
 use pi_rows::files::{Named, follow_file};
 use pi_rows::follow::Subject;
 use pi_rows::words::number_before;
@@ -105,9 +104,8 @@ fn lines(alloc: Global, file: &[u8]) -> Result<Option<Vec<String>>, AllocError> 
     let mut lines = Vec::new(alloc);
     match Raw::new(alloc, file) {
         Ok(raw) => {
-            let view = View::new(alloc, &raw)?;
-            add_members(&mut lines, alloc, &view)?;
-            add_broken(&mut lines, alloc, &view)?;
+            add_members(&mut lines, alloc, &raw)?;
+            add_broken(&mut lines, alloc, &raw)?;
         }
         Err(fault) => lines.push(format!(in alloc; "{fault}")?)?,
     }
@@ -115,9 +113,9 @@ fn lines(alloc: Global, file: &[u8]) -> Result<Option<Vec<String>>, AllocError> 
 }
 
 /// Adds the members of each class.
-fn add_members(lines: &mut Vec<String>, alloc: Global, view: &View<'_>) -> Result<(), AllocError> {
-    for i in 0..view.class_defs() {
-        match class_rows(alloc, view, i)? {
+fn add_members(lines: &mut Vec<String>, alloc: Global, raw: &Raw<'_>) -> Result<(), AllocError> {
+    for i in 0..raw.class_defs() {
+        match class_rows(alloc, raw, i)? {
             Some(rows) => add_class(lines, alloc, i, &rows)?,
             None => lines.push(format!(in alloc; "class {i}: no members")?)?,
         }
@@ -152,28 +150,28 @@ fn add_rows(
 }
 
 /// Adds where the rules on members and values are broken, and the values.
-fn add_broken(lines: &mut Vec<String>, alloc: Global, view: &View<'_>) -> Result<(), AllocError> {
-    let (broken, table) = read_rows(alloc, view)?;
+fn add_broken(lines: &mut Vec<String>, alloc: Global, raw: &Raw<'_>) -> Result<(), AllocError> {
+    let (broken, table) = read_rows(alloc, raw)?;
     lines.push(format!(in alloc; "members broken at {broken:?}")?)?;
-    let broken = values_rule(alloc, view, &table)?;
+    let broken = values_rule(alloc, raw, &table)?;
     lines.push(format!(in alloc; "values broken at {broken:?}")?)?;
-    add_values(lines, alloc, view, &table)
+    add_values(lines, alloc, raw, &table)
 }
 
 /// Adds the values of each class, by the table of its members.
 fn add_values(
     lines: &mut Vec<String>,
     alloc: Global,
-    view: &View<'_>,
+    raw: &Raw<'_>,
     table: &RowTable,
 ) -> Result<(), AllocError>
-    requires { table.now ≡ listed (rows_of view.now) 0 (count_at view.now class_defs) }
+    requires { table.now ≡ listed (rows_of raw.now) 0 (count_at raw.now class_defs) }
 {
-    for i in 0..view.class_defs() {
+    for i in 0..raw.class_defs() {
         if table.len() <= i as usize {
             return Ok(());
         }
-        let values = class_values(alloc, view, table.get(i), i)?;
+        let values = class_values(alloc, raw, table.get(i), i)?;
         lines.push(format!(in alloc; "values of class {i}: {values:?}")?)?;
     }
     Ok(())

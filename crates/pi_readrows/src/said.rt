@@ -4,10 +4,8 @@ ghost use Rattle.pi_format.specs.Rules.CodeItems.{code_lies};
 ghost use Rattle.pi_format.specs.Rules.Pieces.{index_holds, first_insn, code_walk};
 
 use pi_codeitem::{broken_index, handlers, lies, units, walk};
-use pi_dexcode::code;
-use pi_dexcode::Named;
+use pi_dexcode::{Named, code};
 use pi_dexraw::Raw;
-use pi_dexview::View;
 use pi_model::numbers::NameNo;
 use std::alloc::{AllocError, Global};
 use std::io;
@@ -26,12 +24,11 @@ pub(crate) fn tell_code(
     let Ok(raw) = Raw::new(alloc, file) else {
         return Ok(false);
     };
-    let view = View::new(alloc, &raw)?;
-    let numbers = numbers(alloc, view.strings())?;
-    if numbers.len() != view.strings() as usize {
+    let numbers = numbers(alloc, raw.strings())?;
+    if numbers.len() != raw.strings() as usize {
         return Ok(false);
     }
-    let names = Named::new(&view, numbers.as_slice());
+    let names = Named::new(&raw, numbers.as_slice());
     match said(alloc, &names, place)? {
         Some(text) => println!(rt; "{title}: {text}")?,
         None => return Ok(false),
@@ -64,7 +61,7 @@ fn has_indices(alloc: Global, file: &[u8], at: usize) -> Result<bool, AllocError
 
 /// The code of a code item as it prints, where its rules hold.
 fn said(alloc: Global, names: &Named<'_>, place: u32) -> Result<Option<String>, AllocError> {
-    let file = names.view().file();
+    let file = names.raw().file();
     let at = place as usize;
     if !lies(file, at) {
         return Ok(None);
