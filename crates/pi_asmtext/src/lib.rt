@@ -1,4 +1,8 @@
 // Reads assembler text into lines of tokens. docs/assembler.md states both.
+//
+// Proved: `parse` answers the lines of a text with their tokens, each as it is written and with its place, only where the
+// text keeps the grammar, and else the first place at which what stands so far begins no text of the grammar. The grammar
+// is a pattern over the symbols of the text, and the words are patterns over their units. The program does not use it yet.
 #![tactic(auto)]
 
 mod fault;

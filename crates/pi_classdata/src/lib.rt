@@ -1,4 +1,8 @@
 // The class data and the static values of the classes of a file, by the rules X18 and X19 of docs/dex-format.md.
+//
+// Proved: `read_rows` is X18 with the members of all classes, `values_rule` X19, `class_values` the static values, each
+// exactly as `pi_format` defines it; the laws `rows_are_members` and `values_are_there` say that members are there and
+// belong to their class, and that what values name is there.
 #![tactic(auto)]
 
 mod apart;

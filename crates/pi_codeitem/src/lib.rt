@@ -1,5 +1,9 @@
 // Code items of a file, by the rules X20 to X23 of docs/dex-format.md: the head, the ranges with their handlers, and the
 // instructions and payloads that its units are.
+//
+// Proved: `holds` is X20 for a method; `walk` finds the instructions and payloads of units, and `broken_index` and
+// `broken_payload` are X22 and X23; `handlers` are the lists of handlers; all exactly as `pi_format` defines them. Laws say
+// that the pieces fill the code up and that ranges have their handlers.
 #![tactic(auto)]
 
 mod bytes;

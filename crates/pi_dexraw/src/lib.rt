@@ -1,5 +1,8 @@
-// Tests the tables of a file by the rules X1 to X17 of docs/dex-format.md, lends its strings and entries by number, and says
-// what its entries say.
+// Tests the tables of a file by the rules X1 to X17 of docs/dex-format.md, lends its strings and entries by number, and
+// says what its entries say.
+//
+// Proved: `Raw::new` answers Ok exactly where none of these rules is broken, and else the lowest one at its lowest place
+// (`told`); strings and entries are lent without copy, as the exact slices of the file; and what an entry names is there.
 #![tactic(auto)]
 
 mod asking;

@@ -1,5 +1,10 @@
-// What a command owes: the relation between its words, what the store holds, and what it writes, prints and answers. The
-// definitions stand in specs/, and docs/commands.md states them in words.
+// What a command owes: the relation between its words, what the store holds, and what it writes, prints and answers; and
+// which programs are small. The definitions stand in specs/, and docs/commands.md states them in words.
+//
+// Proved: for its words and for what the store holds a command owes one thing at most (`owes_once`), and what a small
+// program looks like that a file says (`small_class`, `small_shape`). The worked file is followed from the program that its
+// bytes say to what it owes in proofs/Five.antt; that it breaks no rule is a premise there, since its signature is not
+// computed by the prover, and is a case.
 #![tactic(auto)]
 
 ghost use Rattle.pi_duty.specs.Duty.{OwesOnce, ReadersWriteNothing};

@@ -1,5 +1,10 @@
-// Reading and writing of instructions as 16-bit units, and of the payloads that they point at. docs/dex-format.md
-// has the formats and the table of opcodes.
+// Reading and writing of instructions as 16-bit units, and of the payloads that they point at. docs/dex-format.md has the
+// formats and the table of opcodes.
+//
+// Proved: `decode` reads what stands at a unit by the one table of opcodes, or answers that the opcode is unsupported or
+// cut; `payload` lends the payload that stands whole at a unit; `encode` writes the units of an instruction, or answers
+// that an operand does not fit. The law `written_is_read` says that what is written is read again, whatever stands before
+// and behind.
 #![tactic(auto)]
 
 mod data;

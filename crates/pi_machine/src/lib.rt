@@ -1,5 +1,22 @@
 // The machine on names and objects, as docs/machine.md describes it: its state, the deeds of a step, initialisation,
-// runs and their ends. All of it is definitions in specs/; the laws about them are functions with no body to run.
+// throwing and handlers, natives, runs and their ends. All of it is definitions in specs/ that compute; the laws about them
+// are functions with no body to run. No code runs it whole yet: the top call runs the instructions of small programs, and
+// is proved to do what these definitions say.
+//
+// Laws of runs: an end is unique (`end_is_unique`, `run_end_is_unique`), output only grows (`output_grows`), a run ends so
+// from any of its moments exactly where it ends so from its beginning (`end_stays`, `longer_run_ends_same`), what is ended
+// is at rest, and what is at rest has no next step (`ended_is_at_rest`, `rest_has_no_step`, `ended_has_no_step`). Of steps:
+// a step changes only what its deeds name (`deeds_change_only`), statuses move from fresh to in progress and on to done or
+// erroneous and no other way (`steps_keep_statuses`, `start_records_run`, `statuses_stay`), instructions leave
+// initialisation alone (`rows_keep_within`), no write of an instruction or of a class's static values is lost
+// (`row_writes_are_inside`, `step_writes_are_inside`), what the deeds tell as read stands so (`looks_are_true`); all writes
+// of a step have one target and all its reads of statics one class, it makes one object at most and that before it touches
+// a literal, enters one class and calls one native at most (`writes_have_one_target`, `static_reads_have_one_class`,
+// `steps_make_first`, `steps_enter_and_call_once`); the bytes of an image grow by what is made and first touched
+// (`image_bytes_grow`). Sound states, in which each reference names what is there and numbers fit their width, stay sound,
+// where a program's constants are words and no text is made of 2^31 units or more (`steps_keep_sound`, `starts_are_sound`,
+// `few_bytes_are_short`). Worked programs stand in proofs/ and are checked with the definitions: each instruction, each
+// native with each way in which it throws, initialisation, handlers, and each limit met exactly.
 #![tactic(auto)]
 
 ghost use Rattle.pi_machine.specs.Laws.{EndIsUnique, RunEndIsUnique, OutputGrows, EndStays};

@@ -100,7 +100,7 @@ fn broken(alloc: Global, fault: DexFault) -> Result<Vec<String>, AllocError> {
 fn lines(alloc: Global, raw: &Raw<'_>) -> Result<Vec<String>, AllocError> {
     let mut lines = Vec::new(alloc);
     lines.push(table_sizes(alloc, raw)?)?;
-    lines.push(digest(alloc, raw.bytes())?)?;
+    lines.push(digest(alloc, raw.file())?)?;
     add_texts(&mut lines, alloc, raw)?;
     add_types(&mut lines, alloc, raw)?;
     add_protos(&mut lines, alloc, raw)?;

@@ -1,4 +1,8 @@
-// What holds of the program that files say: laws of the definitions of pi_format, each on a function with no body.
+// What holds of the program that files say: laws of the definitions of `pi_format`, each on a function with no body.
+//
+// Proved: the program with one more file keeps what every program keeps (`said_keeps`, `said_fits`, `said_has_room`), the
+// number of each string is that of the name with its text (`names_are_texts`), and so of all files of a chain
+// (`files_say_a_program`).
 #![tactic(auto)]
 
 ghost use Rattle.std.specs.Prelude.{◌≡◌, ◌<◌, ◌≤◌, ℕ, List, length, None, Some, slice_get};
