@@ -3,7 +3,7 @@ use Rattle.std.specs.Prelude.{◌≡◌, ◌≤◌, ℕ, List, length, codes, No
 use Rattle.pi_model.specs.Texts.{same_text}
 use Rattle.pi_format.specs.Tables.{count_at, string_ids}
 use Rattle.pi_format.specs.Rules.{broken_tables_rule}
-use Rattle.pi_format.specs.Rules.Strings.{string_bytes}
+use Rattle.pi_format.specs.Rules.Strings.{string_units}
 use Rattle.pi_dexids.specs.Facts.{AreFacts}
 use Rattle.pi_dexraw.specs.declared.known.Known.{Known}
 
@@ -18,7 +18,7 @@ known_text text = record {
 
 -- of a string
 unfoldable pub known_of : List ℕ → ℕ → Known
-known_of file i = known_text (string_bytes file i)
+known_of file i = known_text (string_units file i)
 
 -- no rule from X1 to X17 is broken, an offset is a number of 32 bits, and each string is known
 pub record IsRaw (file : List ℕ) (known : List Known) : Type 0 where

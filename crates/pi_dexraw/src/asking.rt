@@ -2,9 +2,12 @@
 
 ghost use Rattle.std.specs.Prelude.{◌≡◌, ◌≤◌, None, length, IfOk, OnOk};
 ghost use Rattle.pi_format.specs.Rules.{asked, broken_tables_rule};
-ghost use Rattle.pi_format.specs.Rules.Strings.{broken_types};
+ghost use Rattle.pi_format.specs.Rules.Strings.{broken_strings, broken_types};
+ghost use Rattle.pi_format.specs.Tables.{count_at, string_ids};
+ghost use Rattle.pi_dexids.specs.Facts.{AreFacts};
 ghost use Rattle.pi_dexids.specs.Tables.{HasTables};
 ghost use Rattle.pi_dexids.specs.Tails.{AreTails};
+ghost use Rattle.pi_dexraw.specs.Whole.{known_of};
 ghost use Rattle.pi_dexraw.specs.Asked.{Asks, Tells, header_rules, sum_rules, string_rules, id_rules, class_rules};
 
 use crate::classes::classes_rule;
@@ -13,6 +16,7 @@ use crate::header::{
     checksum_rule, data_rule, file_size_rule, header_size_rule, length_rule, magic_rule,
     order_rule, signature_rule, tables_rule,
 };
+use crate::known::{Known, known_texts};
 use crate::map::map_rule;
 use crate::members::{fields_rule, methods_rule};
 use crate::protos::protos_rule;
@@ -67,6 +71,7 @@ fn ask_strings(alloc: Global, file: &[u8], tails: &[Option<Tail>]) -> Result<(),
     requires tables { HasTables file.now }
     requires tails { AreTails file.now 0 tails.now }
     ensures asks { Asks (string_rules file.now) result }
+    ensures strings { OnOk result (broken_strings file.now ≡ None) }
     ensures types { OnOk result (broken_types file.now ≡ None) }
 {
     ask(10, map_rule(alloc, file)?)?;
@@ -95,12 +100,16 @@ fn ask_classes(alloc: Global, types: &Types<'_>, tails: &[Option<Tail>]) -> Resu
     ask(17, classes_rule(alloc, types)?)
 }
 
-/// All rules on a file whose length fits, and its types.
+/// All rules on a file whose length fits; and its types, and which of the known texts its strings are.
 #[tactic(auto, using(crate::proofs::Chain::all_rules))]
-pub(crate) fn ask_all<'a>(alloc: Global, file: &'a [u8]) -> Result<Types<'a>, DexFault>
+pub(crate) fn ask_all<'a>(
+    alloc: Global,
+    file: &'a [u8],
+) -> Result<(Types<'a>, Vec<Known>), DexFault>
     requires { length file.now ≤ 16777216 }
     ensures told { Tells (broken_tables_rule file.now) result }
-    ensures value { IfOk result (λ types. types ≡ file.now) }
+    ensures types { IfOk result (λ r. r.0 ≡ file.now) }
+    ensures known { IfOk result (λ r. AreFacts (known_of file.now) (count_at file.now string_ids) r.1.items) }
 {
     ask_header(file)?;
     ask_sums(file)?;
@@ -109,5 +118,6 @@ pub(crate) fn ask_all<'a>(alloc: Global, file: &'a [u8]) -> Result<Types<'a>, De
     let types = Types::new(alloc, file, tails.as_slice())?;
     ask_ids(alloc, &types, tails.as_slice())?;
     ask_classes(alloc, &types, tails.as_slice())?;
-    Ok(types)
+    let known = known_texts(alloc, file, tails.as_slice())?;
+    Ok((types, known))
 }

@@ -3,13 +3,15 @@
 ghost use Rattle.std.specs.Prelude.{◌≡◌, ◌<◌, ◌==◌, None, length, take, slice_get, Some, IfOk};
 ghost use Rattle.std.specs.List.{position_or_len};
 ghost use Rattle.pi_format.specs.Tables.{count_at, string_ids};
-ghost use Rattle.pi_format.specs.Rules.{broken_tables_rule};
 ghost use Rattle.pi_format.specs.Rules.Strings.{string_bytes, broken_strings};
 ghost use Rattle.pi_dexids.specs.Tables.{HasTables};
 ghost use Rattle.pi_dexids.specs.Facts.{AreFacts};
+ghost use Rattle.pi_dexids.specs.Tails.{AreTails};
 ghost use Rattle.pi_dexraw.specs.Whole.{known_text, known_of};
 
 use pi_dexids::entries::{STRING_IDS, count, text_place};
+use pi_dexids::tail::Tail;
+use pi_dexids::tails::string;
 use pi_dexids::texts::head;
 use std::alloc::{AllocError, Global};
 
@@ -68,16 +70,39 @@ pub(crate) fn text_bytes<'a>(file: &'a [u8], i: usize) -> &'a [u8]
     }
 }
 
+/// Which of the known texts a string is. None of them has more than 18 units, so longer ones are not read.
+fn known_text_of(file: &[u8], tails: &[Option<Tail>], i: usize) -> Known
+    requires tables { HasTables file.now }
+    requires counted { i < count_at file.now string_ids }
+    requires texts { broken_strings file.now ≡ None }
+    requires tails { AreTails file.now 0 tails.now }
+    ensures { result ≡ known_of file.now i }
+{
+    if string(file, tails, i).units > 18 {
+        return Known {
+            is_constructor: false,
+            is_initialiser: false,
+            is_string_type: false,
+            is_class_type: false,
+        };
+    }
+    spelled_by(text_bytes(file, i))
+}
+
 /// For each string which of the known texts it is.
-#[tactic(auto, unfolding(crate::specs::Whole::known_of))]
-pub(crate) fn known_texts(alloc: Global, file: &[u8]) -> Result<Vec<Known>, AllocError>
+pub(crate) fn known_texts(
+    alloc: Global,
+    file: &[u8],
+    tails: &[Option<Tail>],
+) -> Result<Vec<Known>, AllocError>
     requires tables { HasTables file.now }
     requires texts { broken_strings file.now ≡ None }
+    requires tails { AreTails file.now 0 tails.now }
     ensures { IfOk result (λ list. AreFacts (known_of file.now) (count_at file.now string_ids) list.items) }
 {
     let mut list = Vec::new(alloc);
     for i in 0..count(file, STRING_IDS) {
-        list.push(spelled_by(text_bytes(file, i)))?;
+        list.push(known_text_of(file, tails, i))?;
     }
     Ok(list)
 }

@@ -13,7 +13,7 @@ ghost use Rattle.pi_dexraw.specs.Whole.{known_of};
 
 use crate::asking::ask_all;
 use crate::fault::DexFault;
-use crate::known::{Known, known_texts, text_bytes};
+use crate::known::{Known, text_bytes};
 use pi_bytes::numbers::word;
 use pi_dexids::entries::{
     CLASS_DEFS, FIELD_IDS, METHOD_IDS, PROTO_IDS, STRING_IDS, TYPE_IDS, entry,
@@ -60,17 +60,13 @@ fn lend<'a>(file: &'a [u8], table: usize, width: usize, i: usize) -> &'a [u8]
 
 impl<'a> Raw<'a> {
     /// Tests the rules X1 to X17 and tells the first one that is broken.
-    #[tactic(auto, using(crate::proofs::Chain::strings_hold))]
     pub fn new(alloc: Global, bytes: &'a [u8]) -> Result<Raw<'a>, DexFault>
         requires { length bytes.now ≤ 16777216 }
         ensures told { Tells (broken_tables_rule bytes.now) result }
         ensures value { IfOk result (λ raw. raw ≡ bytes.now) }
     {
         match ask_all(alloc, bytes) {
-            Ok(types) => {
-                let known = known_texts(alloc, types.file())?;
-                Ok(Raw { types, known })
-            }
+            Ok((types, known)) => Ok(Raw { types, known }),
             Err(fault) => Err(fault),
         }
     }
@@ -106,8 +102,7 @@ impl<'a> Raw<'a> {
     /// Which of the known texts a string is.
     pub(crate) fn known(&self, s: u32) -> Known
         requires { s < count_at self.now string_ids }
-        ensures value { result ≡ known_of self.now s }
-        ensures kept { broken_tables_rule self.now ≡ None }
+        ensures { result ≡ known_of self.now s }
     {
         fact(self.known.as_slice(), s as usize)
     }

@@ -96,6 +96,7 @@ impl<'a> Raw<'a> {
     }
 
     /// Whether a string is `<init>`.
+    #[tactic(auto, unfolding(crate::specs::Whole::known_of))]
     pub fn is_constructor_name(&self, s: u32) -> bool
         requires { s < count_at self.now string_ids }
         ensures { result ≡ same_text (codes "<init>") (string_units self.now s) }
@@ -104,6 +105,7 @@ impl<'a> Raw<'a> {
     }
 
     /// Whether a string is `<clinit>`.
+    #[tactic(auto, unfolding(crate::specs::Whole::known_of))]
     pub fn is_initialiser_name(&self, s: u32) -> bool
         requires { s < count_at self.now string_ids }
         ensures { result ≡ same_text (codes "<clinit>") (string_units self.now s) }
@@ -112,6 +114,7 @@ impl<'a> Raw<'a> {
     }
 
     /// Whether a type is `Ljava/lang/String;`.
+    #[tactic(auto, unfolding(crate::specs::Whole::known_of))]
     pub fn is_string_type(&self, t: u32) -> bool
         requires { t < count_at self.now type_ids }
         ensures { result ≡ same_text (codes "Ljava/lang/String;") (type_units self.now t) }
@@ -120,6 +123,7 @@ impl<'a> Raw<'a> {
     }
 
     /// Whether a type is `Ljava/lang/Class;`.
+    #[tactic(auto, unfolding(crate::specs::Whole::known_of))]
     pub fn is_class_type(&self, t: u32) -> bool
         requires { t < count_at self.now type_ids }
         ensures { result ≡ same_text (codes "Ljava/lang/Class;") (type_units self.now t) }
