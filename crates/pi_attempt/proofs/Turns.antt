@@ -219,9 +219,6 @@ module _ (p : Program) (file : ℕ) (line : Line) where
   stuck_now zero class others now stuck = refl
   stuck_now (suc n) class others now stuck = rw stuck refl
 
-  same_waits : (x y : Waits) → Some x ≡ Some y → x ≡ y
-  same_waits x y e = cc
-
   abbrev NeverSettles : ℕ → ℕ → Waits → Type 0
   NeverSettles n turns end = (waiting : List ℕ) (w : Progress) → turns_after p file line turns waiting w ≡ Some end → settle p file line n waiting w ≡ None
 
@@ -240,7 +237,7 @@ module _ (p : Program) (file : ℕ) (line : Line) where
       → (turns n : ℕ) → NeverSettles n turns (record { waiting = class ∷ others; progress = now })
   never_settles class others now stuck zero n waiting w e =
       subst (λ (x : Waits). settle p file line n x.waiting x.progress ≡ None)
-      (sym (same_waits (record { waiting = waiting; progress = w }) (record { waiting = class ∷ others; progress = now }) e)) (stuck_now n class others now stuck)
+      (sym (some_same (record { waiting = waiting; progress = w }) (record { waiting = class ∷ others; progress = now }) e)) (stuck_now n class others now stuck)
   never_settles class others now stuck (suc turns) n [] w e = cc
   never_settles class others now stuck (suc turns) zero (c ∷ waiting) w e = refl
   never_settles class others now stuck (suc turns) (suc n) (c ∷ waiting) w e =

@@ -1,5 +1,5 @@
 -- A step changes only what its deeds name.
-use Rattle.std.proofs.Common.{◌≡◌, ◌≢◌, ℕ, zero, suc, ◌<◌, ◌≤◌, ◌==◌, List, [], ◌∷◌, ◌++◌, length, slice_get, slice_set, Option, Some, None, Bool, true, false, ◌||◌, if◌then◌else◌, option_map, refl, sym, ◌∙◌, ap, arith, length-append}
+use Rattle.std.proofs.Common.{◌≡◌, ◌≢◌, ℕ, zero, suc, ◌<◌, ◌≤◌, ◌==◌, List, [], ◌∷◌, ◌++◌, length, slice_get, slice_set, Option, Some, None, Bool, true, false, if◌then◌else◌, option_map, refl, sym, ◌∙◌, ap, arith, length-append}
 use Rattle.std.proofs.lemmas.Bool.{eqb-false}
 use Rattle.std.proofs.lemmas.Option.{slice_get_within}
 use Rattle.std.specs.List.{list_any}
@@ -8,6 +8,7 @@ use Rattle.pi_machine.specs.State.{State, Thing, Made, Touched}
 use Rattle.pi_machine.specs.Deeds.{Deed, Make, Touch, SetStatic, SetStatus, SetField, SetItem, Print, Start, Push, Pop, SetReg, Jump, GoOn, SetPhase, Pend, Unpend, Hold, do_deed, do_all, is_touched, with_field, with_item, in_thing, put_changed}
 use Rattle.pi_machine.specs.Objects.{made_of, Shape, OfInstance, OfArray, shape_of}
 use Rattle.pi_machine.specs.StepLaws.{sets_static, sets_status, changes_thing, adds_thing, prints, moves_stack, pends, holds, starts, NoneOf, file_of, DeedsChangeOnly}
+use Rattle.pi_machine.proofs.Truths.{neither}
 
 -- lists
 
@@ -214,19 +215,11 @@ deed_file (Make o) s = refl
 deed_file _ s = refl
 
 -- all deeds of a list
-pub first_none : (a b : Bool) → (a || b) ≡ false → a ≡ false
-first_none true b e = cc
-first_none false b e = refl
-
-pub others_none : (a b : Bool) → (a || b) ≡ false → b ≡ false
-others_none true b e = cc
-others_none false b e = e
-
 kept_by : {B : Type 0} (part : State → B) (test : Deed → Bool) → ((d : Deed) (s : State) → test d ≡ false → part (do_deed d s) ≡ part s)
     → (ds : List Deed) (s : State) → NoneOf test ds → part (do_all ds s) ≡ part s
 kept_by part test one [] s e = refl
 kept_by part test one (d ∷ ds) s e =
-    kept_by part test one ds (do_deed d s) (others_none (test d) (list_any test ds) e) ∙ one d s (first_none (test d) (list_any test ds) e)
+    let k = neither (test d) (list_any test ds) e in kept_by part test one ds (do_deed d s) k.1 ∙ one d s k.0
 
 kept_always : {B : Type 0} (part : State → B) → ((d : Deed) (s : State) → part (do_deed d s) ≡ part s)
     → (ds : List Deed) (s : State) → part (do_all ds s) ≡ part s
@@ -242,8 +235,8 @@ kept_thing : (n : ℕ) (ds : List Deed) (s : State) → n < length s.things → 
 kept_thing n [] s h e = refl
 kept_thing n (d ∷ ds) s h e =
     let more = deed_grows d s in
-    kept_thing n ds (do_deed d s) (omega arith) (others_none (changes_thing n d) (list_any (changes_thing n) ds) e)
-    ∙ deed_things n d s h (first_none (changes_thing n d) (list_any (changes_thing n) ds) e)
+    let k = neither (changes_thing n d) (list_any (changes_thing n) ds) e in
+    kept_thing n ds (do_deed d s) (omega arith) k.1 ∙ deed_things n d s h k.0
 
 kept_unseen : {B : Type 0} (look : Option Thing → B) → Unseen look → (n : ℕ) (ds : List Deed) (s : State) → n < length s.things
     → look (slice_get (do_all ds s).things n) ≡ look (slice_get s.things n)

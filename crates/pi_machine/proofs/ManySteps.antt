@@ -8,13 +8,11 @@ use Rattle.pi_machine.specs.State.{State}
 use Rattle.pi_machine.specs.Step.{step, after_steps}
 use Rattle.pi_machine.specs.StepLaws.{RecordsRun, StatusMoves, Stays, Enters, Finishes, Breaks, StatusesStay}
 use Rattle.pi_machine.proofs.Statuses.{steps_keep_statuses}
+use Rattle.pi_machine.proofs.Truths.{some_same}
 
 -- a property of states that each step keeps
 pub record StepsKeep (p : Program) (Q : State → Type 0) : Type 0 where
   pub keeps : (s after : State) → Q s → step p s ≡ Some after → Q after
-
-same_state : (x y : State) → Some x ≡ Some y → x ≡ y
-same_state x y e = cc
 
 then_keeps : (p : Program) (Q : State → Type 0) (n : ℕ) (after : State) → ((s : State) → Q s → after_steps p n s ≡ Some after → Q after)
     → (x : Option State) → ((next : State) → x ≡ Some next → Q next) → option_and_then (after_steps p n) x ≡ Some after → Q after
@@ -22,7 +20,7 @@ then_keeps p Q n after ih None q e = cc
 then_keeps p Q n after ih (Some next) q e = ih next (q next refl) e
 
 pub many_steps : (p : Program) (Q : State → Type 0) → StepsKeep p Q → (n : ℕ) (after s : State) → Q s → after_steps p n s ≡ Some after → Q after
-many_steps p Q k zero after s q e = subst Q (same_state s after e) q
+many_steps p Q k zero after s q e = subst Q (some_same s after e) q
 many_steps p Q k (suc n) after s q e = then_keeps p Q n after (many_steps p Q k n after) (step p s) (λ next is. k.keeps s next q is) e
 
 -- done and erroneous are last

@@ -8,6 +8,7 @@ use Rattle.pi_machine.specs.Step.{deeds_of}
 use Rattle.std.specs.Prelude.{if◌then◌else◌, nat_lt, ◌==◌}
 use Rattle.pi_machine.specs.Ends.{End, HeapLimit, FrameLimit, StepLimit, Finish, Setting, Tally, Moment, Next, Ends, Goes, Sticks, next, next_by, next_step, end_of, goes_on, moves_on, run_by, moment_after, EndsFrom, BeginsAndEnds, with_deeds, is_inside, frame_words}
 use Rattle.pi_machine.specs.Laws.{EndIsUnique, RunEndIsUnique, OutputGrows, EndStays}
+use Rattle.pi_machine.proofs.Truths.{some_same}
 
 -- the output of one state is a front of another's
 pub record Grows (before after : State) : Type 0 where
@@ -92,9 +93,6 @@ module _ (p : Program) (given : Setting) where
   fronts_on : (a b : State) (f : Finish) → Grows a b → Fronts b f → Fronts a f
   fronts_on a b f x y = record { rest = x.rest ++ y.rest; is = sym (append_assoc a.output x.rest y.rest) ∙ (ap (λ front. front ++ y.rest) x.is ∙ y.is) }
 
-  same_finish : (x y : Finish) → Some x ≡ Some y → x ≡ y
-  same_finish x y e = cc
-
   stays_front : (x f : Finish) (s : State) → x ≡ f → s.output ≡ x.output → Fronts s f
   stays_front x f s e same = record { rest = []; is = append-nil s.output ∙ (same ∙ ap (λ (y : Finish). y.output) e) }
 
@@ -102,16 +100,13 @@ module _ (p : Program) (given : Setting) where
   ends_fronts_by : (n : ℕ) (f : Finish) (s : State) (t : Tally)
       → ((after : State) (u : Tally) → run_by p given n after u ≡ Some f → Fronts after f)
       → (x : Next) → next p given s t ≡ x → goes_on (run_by p given n) s t x ≡ Some f → Fronts s f
-  ends_fronts_by n f s t ih (Ends end) is e = stays_front (record { end = end; output = s.output; steps = t.steps }) f s (same_finish _ f e) refl
+  ends_fronts_by n f s t ih (Ends end) is e = stays_front (record { end = end; output = s.output; steps = t.steps }) f s (some_same _ f e) refl
   ends_fronts_by n f s t ih (Goes after u) is e = fronts_on s after f (next_grows s t after u is) (ih after u e)
   ends_fronts_by n f s t ih Sticks is e = cc
 
   ends_fronts : (n : ℕ) (f : Finish) (s : State) (t : Tally) → run_by p given n s t ≡ Some f → Fronts s f
   ends_fronts zero f s t e = cc
   ends_fronts (suc n) f s t e = ends_fronts_by n f s t (ends_fronts n f) (next p given s t) refl e
-
-  same_moment : (x y : Moment) → Some x ≡ Some y → x ≡ y
-  same_moment x y e = cc
 
   -- the end of a run from one state is its end from another
   pub record LeadsOn (s : State) (t : Tally) (m : Moment) : Type 0 where
@@ -151,7 +146,7 @@ module _ (p : Program) (given : Setting) where
   leads_by n m s t ih Sticks is e = cc
 
   leads_on : (n : ℕ) (m : Moment) (s : State) (t : Tally) → moment_after p given n s t ≡ Some m → LeadsOn s t m
-  leads_on zero m s t e = leads_here s t m (same_moment (record { state = s; tally = t }) m e)
+  leads_on zero m s t e = leads_here s t m (some_same (record { state = s; tally = t }) m e)
   leads_on (suc n) m s t e = leads_by n m s t (leads_on n m) (next p given s t) refl e
 
 pub end_unique : EndIsUnique

@@ -12,10 +12,11 @@ use Rattle.pi_model.specs.Fields.{new_instance}
 use Rattle.pi_machine.specs.Throwing.{next_made}
 use Rattle.pi_machine.specs.Step.{deeds_of, step}
 use Rattle.pi_machine.specs.StepLaws.{EachDeed, is_record_of, RecordsRunOn, RecordsRun, StatusMoves, Stays, Enters, Finishes, Breaks, StepsKeepStatuses, StartRecordsRun}
-use Rattle.pi_machine.proofs.Changes.{get_set_other, first_none, others_none}
+use Rattle.pi_machine.proofs.Changes.{get_set_other}
 use Rattle.pi_machine.proofs.RowDeeds.{row_deeds}
 use Rattle.pi_machine.proofs.RowDeeds.Words.{RowFact, on_some}
 use Rattle.pi_machine.proofs.Moves.{Move, OfRow, LeavesFrame, Handles, CallsMain, SetsValues, Initialises, Completes, Fails, Replaces, Throws, EntersClass, Sees, values_in, deeds_in, by_move, each_value}
+use Rattle.pi_machine.proofs.Truths.{some_same, neither}
 
 -- what is set at a place is there
 get_set_same : {A : Type 0} (xs : List A) (i : ℕ) (x y : A) → slice_get xs i ≡ Some x → slice_get (slice_set xs i y) i ≡ Some y
@@ -119,9 +120,9 @@ apart_run : (statuses : List ClassState) (c : ℕ) (status : ClassState) (stack 
 apart_run statuses c status [] r e = tt
 apart_run statuses c status (Call f ∷ below) r e = apart_run statuses c status below r e
 apart_run statuses c status (Record d phase ∷ below) r e = (
-  get_set_other statuses c status d (λ q. eqb-false c d (first_none (c == d) (list_any (is_record_of c) below) e) (sym q)) ∙ r.0,
+  get_set_other statuses c status d (λ q. eqb-false c d (neither (c == d) (list_any (is_record_of c) below) e).0 (sym q)) ∙ r.0,
   r.1,
-  apart_run statuses c status below r.2 (others_none (c == d) (list_any (is_record_of c) below) e),
+  apart_run statuses c status below r.2 (neither (c == d) (list_any (is_record_of c) below) e).1,
 )
 
 -- the record on top ends: its class gets its last status, the record goes, and calm deeds follow
@@ -161,12 +162,9 @@ move_fine p s r (CallsMain m f is) = calm_fine s s (Start ∷ Push (Call f) ∷ 
 move_fine p s r (Initialises m f is) = calm_fine s s (SetPhase Running ∷ Push (Call f) ∷ []) (nothing_moved s r) (refl, (refl, tt))
 move_fine p s r (Throws class) = calm_fine s s (Make (new_instance p class) ∷ Pend (next_made s) ∷ []) (nothing_moved s r) (refl, (refl, tt))
 
-same_state : (x y : State) → Some x ≡ Some y → x ≡ y
-same_state x y e = cc
-
 step_fine_by : (p : Program) (s after : State) (ds : Deeds) → RecordsRun s → deeds_of p s ≡ ds → option_map (λ deeds. do_all deeds s) ds ≡ Some after → Fine s after
 step_fine_by p s after None r is e = cc
-step_fine_by p s after (Some ds) r is e = subst (Fine s) (same_state (do_all ds s) after e) (by_move (λ deeds. Fine s (do_all deeds s)) p s (move_fine p s r) ds is)
+step_fine_by p s after (Some ds) r is e = subst (Fine s) (some_same (do_all ds s) after e) (by_move (λ deeds. Fine s (do_all deeds s)) p s (move_fine p s r) ds is)
 
 step_fine : (p : Program) (s after : State) → RecordsRun s → step p s ≡ Some after → Fine s after
 step_fine p s after r e = step_fine_by p s after (deeds_of p s) r refl e

@@ -18,6 +18,7 @@ use Rattle.pi_machine.specs.Rows.Numbers.{unary_value}
 use Rattle.pi_machine.specs.Sound.{IsSoundValue, FewBytesAreShort}
 use Rattle.pi_model.specs.Values.{Instance, Array, Text}
 use Rattle.std.proofs.lemmas.Nat.{pow_pos}
+use Rattle.pi_machine.proofs.Truths.{some_same}
 
 -- how far a number is from 0 or from -1
 abbrev pub far : ℤ → ℕ
@@ -68,10 +69,7 @@ module _ {w : Width} {k half : ℕ} (h : HasHalf w k half) where
   above n e = let is : 2 ^ k ≡ half + half = h.whole in omega (arith, e, is)
 
   some_is : (x r : ℕ) → Some x ≡ Some r → x < half + half → r < half + half
-  some_is x r e b = subst (λ n. n < half + half) (same x r e) b
-    where
-      same : (a b : ℕ) → Some a ≡ Some b → a ≡ b
-      same a b q = cc
+  some_is x r e b = subst (λ n. n < half + half) (some_same x r e) b
 
   unless_is : (b x r : ℕ) → unless_zero b x ≡ Some r → x < half + half → r < half + half
   unless_is zero x r e y = cc

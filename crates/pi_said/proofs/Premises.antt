@@ -1,11 +1,11 @@
 -- Worked instances in which the premises of the laws hold, and in which they fail. That a file breaks no rule is not worked
 -- out here, since that asks for its SHA-1: the reader, which answers Ok exactly there, does so in the cases.
-use Rattle.std.proofs.Common.{◌≡◌, Some, None, ℕ, [], ◌∷◌, true, ◌++◌, List, refl, arith}
+use Rattle.std.proofs.Common.{◌≡◌, Some, ℕ, [], ◌∷◌, true, ◌++◌, List, refl, arith}
 use Rattle.std.specs.Prelude.{nat_lt, replicate}
 use Rattle.pi_model.specs.Program.{Program, no_files}
 use Rattle.pi_model.specs.Valid.{IsProgram}
 use Rattle.pi_format.specs.Tables.{count_at, string_ids}
-use Rattle.pi_format.specs.Rules.{Broken, broken_rule, broken_tables_rule}
+use Rattle.pi_format.specs.Rules.{broken_rule, broken_tables_rule}
 use Rattle.pi_format.specs.Says.{HasRoom, Says}
 
 -- no file says the program of no file, which is one and has room
