@@ -8,7 +8,7 @@ use Rattle.pi_insn.specs.declared.raw.InsnError.TheVariants.{Unsupported, Cut}
 use Rattle.pi_insn.specs.declared.table.Row.{Row}
 use Rattle.pi_insn.specs.declared.table.Row.TheVariants.{F10x, F12x, F11n, F11x, F10t, F20t, F22x, F21t, F21s, F21h, F21c, F23x, F22b, F22t, F22s, F22c, F30t, F32x, F31i, F31t, F31c, F35c, F3rc, F51l}
 use Rattle.pi_insn.specs.Table.{row_of, units_of, refuses}
-use Rattle.pi_insn.specs.Reading.{insn, body_of, read, read_where, decoded}
+use Rattle.pi_insn.specs.Reading.{insn, body_of, row_insn, insn_where, insn_in}
 use Rattle.pi_insn.specs.Payloads.{Data, payload}
 use Rattle.pi_format.specs.Rules.Pieces.{Piece, Walk, What, Instruction, Payload, front_piece, payload_units, walk_from, walk}
 use Rattle.pi_codeitem.specs.Lying.{FillUp, end_of}
@@ -47,8 +47,8 @@ row_size F51l = lit≤ tt
 abbrev read_cases : Bool → Bool → ℕ → Row → ℕ → List ℕ → Result (RawInsn × ℕ) InsnError
 read_cases a b op row high rest = if a then Err (Unsupported op) else if b then Err Cut else Ok (insn op (body_of row high rest), units_of row)
 
-read_size : (op : ℕ) (row : Row) (high : ℕ) (rest : List ℕ) (i : RawInsn) (n : ℕ) → read op row high rest ≡ Ok (i, n) → (1 ≤ n) × (n ≤ length rest + 1)
-unfolding read
+read_size : (op : ℕ) (row : Row) (high : ℕ) (rest : List ℕ) (i : RawInsn) (n : ℕ) → row_insn op row high rest ≡ Ok (i, n) → (1 ≤ n) × (n ≤ length rest + 1)
+unfolding row_insn
 read_size op row high rest i n e = by_test (refuses row high) (nat_lt (length rest + 1) (units_of row)) refl e
   where
     by_test : (a b : Bool) → nat_lt (length rest + 1) (units_of row) ≡ b
@@ -65,33 +65,33 @@ read_size op row high rest i n e = by_test (refuses row high) (nat_lt (length re
         let fits : units_of row ≤ length rest + 1 = grind (arith, nat_tests) in
         (omega arith, omega arith)
 
-where_size : (op : ℕ) (row : Option Row) (high : ℕ) (rest : List ℕ) (i : RawInsn) (n : ℕ) → read_where op row high rest ≡ Ok (i, n) → (1 ≤ n) × (n ≤ length rest + 1)
+where_size : (op : ℕ) (row : Option Row) (high : ℕ) (rest : List ℕ) (i : RawInsn) (n : ℕ) → insn_where op row high rest ≡ Ok (i, n) → (1 ≤ n) × (n ≤ length rest + 1)
 where_size op None high rest i n e = cc
 where_size op (Some row) high rest i n e = read_size op row high rest i n e
 
-insn_size : (units : List ℕ) (i : RawInsn) (n : ℕ) → decoded units ≡ Ok (i, n) → (1 ≤ n) × (n ≤ length units)
+insn_size : (units : List ℕ) (i : RawInsn) (n : ℕ) → insn_in units ≡ Ok (i, n) → (1 ≤ n) × (n ≤ length units)
 insn_size [] i n e = cc
 insn_size (unit ∷ rest) i n e =
     let size = where_size (unit % 256) (row_of (unit % 256)) (unit / 256) rest i n e in
     (size.0, omega (arith, size.1))
 
 front_size : (at : ℕ) (units : List ℕ) (p : Piece) → front_piece at units ≡ Some p → (p.at ≡ at) × (1 ≤ p.units) × (p.units ≤ length units)
-front_size at units p e = by_read (decoded units) (payload units) refl refl e
+front_size at units p e = by_read (insn_in units) (payload units) refl refl e
   where
-    by_read : (r : Result (RawInsn × ℕ) InsnError) (o : Option Data) → decoded units ≡ r → payload units ≡ o → front_piece at units ≡ Some p
+    by_read : (r : Result (RawInsn × ℕ) InsnError) (o : Option Data) → insn_in units ≡ r → payload units ≡ o → front_piece at units ≡ Some p
         → (p.at ≡ at) × (1 ≤ p.units) × (p.units ≤ length units)
-    by_read (Ok x) o read lent e =
-        let size = insn_size units x.0 x.1 read in
-        let is : Some (piece at x.1 (Instruction x.0)) ≡ Some p = rw read at e in
+    by_read (Ok x) o seen lent e =
+        let size = insn_size units x.0 x.1 seen in
+        let is : Some (piece at x.1 (Instruction x.0)) ≡ Some p = rw seen at e in
         let same : piece at x.1 (Instruction x.0) ≡ p = cc in
         let n : x.1 ≡ p.units = ap (λ (q : Piece). q.units) same in
         (sym (ap (λ (q : Piece). q.at) same), omega (arith, n, size.0), omega (arith, n, size.1))
-    by_read (Err fault) None read lent e =
-        let is : None ≡ Some p = rw (read, lent) at e in
+    by_read (Err fault) None seen lent e =
+        let is : None ≡ Some p = rw (seen, lent) at e in
         cc
-    by_read (Err fault) (Some d) read lent e =
+    by_read (Err fault) (Some d) seen lent e =
         let size = payload_front units d lent in
-        let is : Some (piece at (payload_units d) (Payload d)) ≡ Some p = rw (read, lent) at e in
+        let is : Some (piece at (payload_units d) (Payload d)) ≡ Some p = rw (seen, lent) at e in
         let same : piece at (payload_units d) (Payload d) ≡ p = cc in
         let n : payload_units d ≡ p.units = ap (λ (q : Piece). q.units) same in
         (sym (ap (λ (q : Piece). q.at) same), omega (arith, n, size.0), omega (arith, n, size.1))

@@ -1,7 +1,7 @@
 // What stands at an address of a code: an instruction, or the payload of one.
 
 ghost use Rattle.std.specs.Prelude.{◌≡◌, ◌+◌, ◌*◌, ◌/◌, ◌<◌, ◌≤◌, length, drop, Some, None, IfSome, IfNone};
-ghost use Rattle.pi_insn.specs.Numbers.{signed};
+ghost use Rattle.pi_insn.specs.Numbers.{signed_number};
 ghost use Rattle.pi_insn.specs.Lent.{data_of};
 ghost use Rattle.pi_format.specs.Rules.Entries.{each_from};
 ghost use Rattle.pi_format.specs.Rules.Pieces.{What as Found, front_piece, payload_units, payload_fits, signed_key, key_rises, keys_rise};
@@ -43,7 +43,7 @@ impl<'a> Model for Piece<'a> {
 
 /// The signed number of 32 bits.
 fn signed(n: u32) -> i32
-    ensures { result ≡ signed 2147483648 n }
+    ensures { result ≡ signed_number 2147483648 n }
 {
     if n < 1 << 31 {
         n as i32

@@ -2,7 +2,7 @@
 
 ghost use Rattle.std.specs.Prelude.{◌≡◌, ◌+◌, ◌*◌, ◌^◌, ◌<◌, ◌≤◌};
 ghost use Rattle.pi_format.specs.Says.Classes.{word_init, long_init, init_of};
-ghost use Rattle.pi_insn.specs.Numbers.{extended};
+ghost use Rattle.pi_insn.specs.Numbers.{signed_extension};
 ghost use Rattle.pi_dex.specs.Judged.{IsInit};
 
 use pi_classdata::EncodedValue;
@@ -28,7 +28,7 @@ fn extended_word(half: u32, n: u32) -> u32
     requires some { 1 ≤ half }
     requires half { half ≤ 2 ^ 31 }
     requires range { n < 2 * half }
-    ensures { result ≡ extended half (2 ^ 32) n }
+    ensures { result ≡ signed_extension half (2 ^ 32) n }
 {
     if n < half {
         return n;
@@ -41,7 +41,7 @@ fn extended_long(half: u64, n: u64) -> u64
     requires some { 1 ≤ half }
     requires half { half ≤ 2 ^ 63 }
     requires range { n < 2 * half }
-    ensures { result ≡ extended half (2 ^ 64) n }
+    ensures { result ≡ signed_extension half (2 ^ 64) n }
 {
     if n < half {
         return n;
@@ -80,7 +80,7 @@ fn small(arg: u8, number: u64) -> u32
 fn signed_word(arg: u8, number: u64) -> u32
     requires arg { arg < 4 }
     requires number { number < 256 ^ (arg + 1) }
-    ensures { result ≡ extended (2 ^ (8 * arg + 7)) (2 ^ 32) number }
+    ensures { result ≡ signed_extension (2 ^ (8 * arg + 7)) (2 ^ 32) number }
 {
     let half = sign_of(arg);
     extended_word(half as u32, small(arg, number))
@@ -90,7 +90,7 @@ fn signed_word(arg: u8, number: u64) -> u32
 fn signed_long(arg: u8, number: u64) -> u64
     requires arg { arg < 8 }
     requires number { number < 256 ^ (arg + 1) }
-    ensures { result ≡ extended (2 ^ (8 * arg + 7)) (2 ^ 64) number }
+    ensures { result ≡ signed_extension (2 ^ (8 * arg + 7)) (2 ^ 64) number }
 {
     let half = sign_of(arg);
     extended_long(half, number)

@@ -2,8 +2,8 @@
 use Rattle.std.proofs.Common.{◌≡◌, ◌⊎◌, inl, inr, ℕ, zero, suc, ◌+◌, ◌*◌, ◌≤◌, List, [], ◌∷◌, length, take, drop, Option, Some, None, Bool, true, false, refl, sym, ap, ◌∙◌, arith, subst}
 use Rattle.std.specs.Prelude.{◌==◌, nat_lt, if◌then◌else◌}
 use Rattle.std.proofs.lemmas.Bool.Decides.{nat_tests}
-use Rattle.pi_insn.specs.Numbers.{signed, word}
-use Rattle.pi_insn.specs.Payloads.{Data, PackedData, SparseData, ArrayData, packed, sparse, is_width, units_for, array, payload}
+use Rattle.pi_insn.specs.Numbers.{signed_number, word}
+use Rattle.pi_insn.specs.Payloads.{Data, PackedData, SparseData, ArrayData, packed_data, sparse, is_width, units_for, array, payload}
 use Rattle.pi_dexcode.specs.Whole.{IsWhole}
 
 unless_true : {A : Type 0} (b : Bool) (x y : A) → (if b then None else Some x) ≡ Some y → (b ≡ false) × (x ≡ y)
@@ -30,9 +30,9 @@ rest_long zero m xs le = omega (arith, le)
 rest_long (suc n) m [] le = omega (arith, le)
 rest_long (suc n) m (x ∷ xs) le = rest_long n m xs (omega (arith, le))
 
-packed_whole : (size : ℕ) (rest : List ℕ) (d : Data) → length rest ≤ 16777216 → packed size rest ≡ Some d → IsWhole d
+packed_whole : (size : ℕ) (rest : List ℕ) (d : Data) → length rest ≤ 16777216 → packed_data size rest ≡ Some d → IsWhole d
 packed_whole size rest d few e =
-    let is = (unless_true (nat_lt (length rest) (2 + 2 * size)) (PackedData (signed 2147483648 (word rest 0)) (take (2 * size) (drop 2 rest))) d e).1 in
+    let is = (unless_true (nat_lt (length rest) (2 + 2 * size)) (PackedData (signed_number 2147483648 (word rest 0)) (take (2 * size) (drop 2 rest))) d e).1 in
     subst IsWhole is (record { few = omega (arith, few, shorter (2 * size) (drop 2 rest), shorter_rest 2 rest) })
 
 not_less : (a b : ℕ) → nat_lt a b ≡ false → b ≤ a
@@ -86,7 +86,7 @@ unfolding payload
 payload_whole [] d few e = cc
 payload_whole (kind ∷ []) d few e = cc
 payload_whole (kind ∷ second ∷ rest) d few e =
-    by_kind (if_either (kind == 0x0100) (packed second rest) (if kind == 0x0200 then sparse second rest else if kind == 0x0300 then array second rest else None) (Some d) e)
+    by_kind (if_either (kind == 0x0100) (packed_data second rest) (if kind == 0x0200 then sparse second rest else if kind == 0x0300 then array second rest else None) (Some d) e)
   where
     by_array : (array second rest ≡ Some d) ⊎ (None ≡ Some d) → IsWhole d
     by_array (inl f) = array_whole second rest d f
@@ -96,6 +96,6 @@ payload_whole (kind ∷ second ∷ rest) d few e =
     by_sparse (inl f) = sparse_whole second rest d f
     by_sparse (inr f) = by_array (if_either (kind == 0x0300) (array second rest) None (Some d) f)
 
-    by_kind : (packed second rest ≡ Some d) ⊎ ((if kind == 0x0200 then sparse second rest else if kind == 0x0300 then array second rest else None) ≡ Some d) → IsWhole d
+    by_kind : (packed_data second rest ≡ Some d) ⊎ ((if kind == 0x0200 then sparse second rest else if kind == 0x0300 then array second rest else None) ≡ Some d) → IsWhole d
     by_kind (inl f) = packed_whole second rest d (omega (arith, few)) f
     by_kind (inr f) = by_sparse (if_either (kind == 0x0200) (sparse second rest) (if kind == 0x0300 then array second rest else None) (Some d) f)

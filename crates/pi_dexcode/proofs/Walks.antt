@@ -6,7 +6,7 @@ use Rattle.std.proofs.lemmas.Bool.Decides.{nat_tests}
 use Rattle.std.proofs.lemmas.List.Elements.{All-nil, All-cons, All-head, All-tail}
 use Rattle.pi_insn.specs.declared.raw.RawInsn.{RawInsn}
 use Rattle.pi_insn.specs.declared.raw.InsnError.{InsnError}
-use Rattle.pi_insn.specs.Reading.{decoded}
+use Rattle.pi_insn.specs.Reading.{insn_in}
 use Rattle.pi_insn.specs.Payloads.{Data, payload}
 use Rattle.pi_format.specs.Bytes.{word_at}
 use Rattle.pi_format.specs.Rules.Entries.{halves_at}
@@ -19,9 +19,9 @@ abbrev piece : ℕ → ℕ → What → Piece
 piece at units what = record { at = at; units = units; what = what }
 
 front_whole : (at : ℕ) (units : List ℕ) (p : Piece) → length units ≤ 16777216 → front_piece at units ≡ Some p → WhatIsWhole p.what
-front_whole at units p few e = by_read (decoded units) (payload units) refl refl e
+front_whole at units p few e = by_read (insn_in units) (payload units) refl refl e
   where
-    by_read : (r : Result (RawInsn × ℕ) InsnError) (o : Option Data) → decoded units ≡ r → payload units ≡ o → front_piece at units ≡ Some p → WhatIsWhole p.what
+    by_read : (r : Result (RawInsn × ℕ) InsnError) (o : Option Data) → insn_in units ≡ r → payload units ≡ o → front_piece at units ≡ Some p → WhatIsWhole p.what
     by_read (Ok x) o read lent e =
         let is : Some (piece at x.1 (Instruction x.0)) ≡ Some p = rw read at e in
         let same : piece at x.1 (Instruction x.0) ≡ p = cc in

@@ -1,7 +1,7 @@
 // Whole numbers modulo powers of two, and the numbers in units.
 
 ghost use Rattle.std.specs.Prelude.{◌≡◌, ◌+◌, ◌*◌, ◌^◌, ◌<◌, length};
-ghost use Rattle.pi_insn.specs.Numbers.{signed, word};
+ghost use Rattle.pi_insn.specs.Numbers.{signed_number, word};
 ghost use Rattle.pi_format.specs.Says.Insns.{word_of, target};
 
 /// A whole number modulo 2^32.
@@ -28,7 +28,7 @@ pub(crate) fn word(units: &[u16], i: usize) -> u32
 
 /// The signed number of these bits.
 pub(crate) fn signed(n: u32) -> i32
-    ensures { result ≡ signed 2147483648 n }
+    ensures { result ≡ signed_number 2147483648 n }
 {
     if n < 1 << 31 {
         n as i32

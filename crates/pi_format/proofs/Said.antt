@@ -6,7 +6,7 @@ use Rattle.pi_bytes.specs.Leb.{uleb_at, sleb_at}
 use Rattle.pi_bytes.specs.Mutf8.{units_at}
 use Rattle.pi_model.specs.Program.{with_file}
 use Rattle.pi_model.specs.declared.describe.Init.TheVariants.{Zero, Word, Long}
-use Rattle.pi_insn.specs.Reading.{read}
+use Rattle.pi_insn.specs.Reading.{row_insn}
 use Rattle.pi_insn.specs.Table.{row_of}
 use Rattle.pi_insn.specs.Payloads.{payload, PackedData, SparseData, ArrayData}
 use Rattle.pi_format.specs.Core.{name_no, core_names, core_program, int_name, object_name, out_name, void_name, strings_name}
@@ -27,14 +27,14 @@ use Rattle.pi_format.proofs.Five.{five_bytes, five_class, line, x_field, print_r
 
 -- the worked file keeps the rules on its content, and says its program behind the first file
 pub five_holds : broken_content_rule five_bytes ≡ None
-unfolding units_at five_bytes broken_content_rule string_text member_row method_fits row_counts rows_at class_rows encoded_value value_fits values_at class_values uleb_at sleb_at handler_at handler_list handler_lists code_lies code_lists code_holds walk read row_of payload
+unfolding units_at five_bytes broken_content_rule string_text member_row method_fits row_counts rows_at class_rows encoded_value value_fits values_at class_values uleb_at sleb_at handler_at handler_list handler_lists code_lies code_lists code_holds walk row_insn row_of payload
 five_holds = refl
 
 pub five_is_said :
     with_said core_program five_bytes
     ≡ with_file core_program (codes "LT;" ∷ codes "VI" ∷ codes "VL" ∷ codes "x" ∷ [])
     (int_name ∷ name_no 8 ∷ object_name ∷ out_name ∷ void_name ∷ strings_name ∷ []) (five_class ∷ [])
-unfolding units_at five_bytes five_class line x_field print_ref clinit_code main_code core_names with_said string_text member_row method_fits row_counts rows_at class_rows encoded_value value_fits values_at class_values uleb_at sleb_at handler_at handler_list handler_lists code_lists walk read row_of payload init_of class_desc code_at insn_of
+unfolding units_at five_bytes five_class line x_field print_ref clinit_code main_code core_names with_said string_text member_row method_fits row_counts rows_at class_rows encoded_value value_fits values_at class_values uleb_at sleb_at handler_at handler_list handler_lists code_lists walk row_insn row_of payload init_of class_desc code_at insn_of
 five_is_said = refl
 
 -- methods by flags: static 0x8, private 0x2, native 0x100, abstract 0x400, constructor 0x10000
@@ -196,32 +196,32 @@ starts_of w = go w.pieces
     go (p ∷ ps) = p.at ∷ go ps
 
 pieces_follow : starts_of walked ≡ 0 ∷ 1 ∷ 6 ∷ []
-unfolding starts_of walked walk read row_of payload
+unfolding starts_of walked walk row_insn row_of payload
 pieces_follow = refl
 
 no_stop : walked.stop ≡ None
-unfolding walked walk read row_of payload
+unfolding walked walk row_insn row_of payload
 no_stop = refl
 
 stops_at_rest : (walk (0x000e ∷ 0x0300 ∷ 1 ∷ 3 ∷ 0 ∷ 0xff05 ∷ [])).stop ≡ Some 1
-unfolding walk read row_of payload
+unfolding walk row_insn row_of payload
 stops_at_rest = refl
 
 stops_at_cut : (walk (0x000e ∷ 0x0013 ∷ [])).stop ≡ Some 1
-unfolding walk read row_of payload
+unfolding walk row_insn row_of payload
 stops_at_cut = refl
 
 -- the payload at unit 4 of a switch at unit 0, and of one at unit 1, whose distance is one less
 points_at_even : first_insn (points_well (walk (0x002b ∷ 4 ∷ 0 ∷ 0x000e ∷ 0x0100 ∷ 0 ∷ 0 ∷ 0 ∷ [])).pieces) (walk (0x002b ∷ 4 ∷ 0 ∷ 0x000e ∷ 0x0100 ∷ 0 ∷ 0 ∷ 0 ∷ [])).pieces ≡ None
-unfolding walk read row_of payload
+unfolding walk row_insn row_of payload
 points_at_even = refl
 
 points_at_odd : first_insn (points_well (walk (0x000e ∷ 0x002b ∷ 4 ∷ 0 ∷ 0x000e ∷ 0x0100 ∷ 0 ∷ 0 ∷ 0 ∷ [])).pieces) (walk (0x000e ∷ 0x002b ∷ 4 ∷ 0 ∷ 0x000e ∷ 0x0100 ∷ 0 ∷ 0 ∷ 0 ∷ [])).pieces ≡ Some 1
-unfolding walk read row_of payload
+unfolding walk row_insn row_of payload
 points_at_odd = refl
 
 points_at_other_kind : first_insn (points_well (walk (0x0026 ∷ 4 ∷ 0 ∷ 0x000e ∷ 0x0100 ∷ 0 ∷ 0 ∷ 0 ∷ [])).pieces) (walk (0x0026 ∷ 4 ∷ 0 ∷ 0x000e ∷ 0x0100 ∷ 0 ∷ 0 ∷ 0 ∷ [])).pieces ≡ Some 0
-unfolding walk read row_of payload
+unfolding walk row_insn row_of payload
 points_at_other_kind = refl
 
 keys_are_signed : keys_rise (0xffff ∷ 0xffff ∷ 0 ∷ 0 ∷ 1 ∷ 0 ∷ []) ≡ true

@@ -3,7 +3,7 @@ use Rattle.std.proofs.Common.{◌≡◌, ℕ, ◌+◌, ◌*◌, ◌/◌, ◌%◌
 use Rattle.pi_insn.specs.declared.table.Row.{Row}
 use Rattle.pi_insn.specs.declared.raw.RawBody.{RawBody}
 use Rattle.pi_insn.specs.Chain.{◌>>=◌}
-use Rattle.pi_insn.specs.Numbers.{below}
+use Rattle.pi_insn.specs.Numbers.{number_below}
 use Rattle.pi_insn.specs.Table.{units_of, refuses}
 use Rattle.pi_insn.specs.Reading.{body_of}
 use Rattle.pi_insn.specs.Writing.{as_units, with_byte, with_pair, with_unit, with_word, alone, byte_alone, pair_alone, unit_behind, byte_and_unit, pair_and_unit, three_bytes, two_units_behind, word_behind, byte_and_word}
@@ -59,12 +59,12 @@ high_byte b c h = omega arith
 same_bytes : (u b x c y : ℕ) (units : List ℕ) → x ≡ b → y ≡ c → units ≡ u ∷ (x + 256 * y) ∷ [] → units ≡ u ∷ (b + 256 * c) ∷ []
 same_bytes u b x c y units same like e = cc
 
-two_bytes : (u b c : ℕ) (units : List ℕ) → (below 256 b >>= (λ b. below 256 c >>= (λ c. as_units (u ∷ (b + 256 * c) ∷ [])))) ≡ Some units
+two_bytes : (u b c : ℕ) (units : List ℕ) → (number_below 256 b >>= (λ b. number_below 256 c >>= (λ c. as_units (u ∷ (b + 256 * c) ∷ [])))) ≡ Some units
     → (b < 256) × (units ≡ u ∷ (b + 256 * c) ∷ [])
 two_bytes u b c units e =
-    let x = bind_some (below 256 b) (λ b. below 256 c >>= (λ c. as_units (u ∷ (b + 256 * c) ∷ []))) units e in
+    let x = bind_some (number_below 256 b) (λ b. number_below 256 c >>= (λ c. as_units (u ∷ (b + 256 * c) ∷ []))) units e in
     let fx = below_some 256 b x.0 x.1.0 in
-    let y = bind_some (below 256 c) (λ c. as_units (u ∷ (x.0 + 256 * c) ∷ [])) units x.1.1 in
+    let y = bind_some (number_below 256 c) (λ c. as_units (u ∷ (x.0 + 256 * c) ∷ [])) units x.1.1 in
     let fy = below_some 256 c y.0 y.1.0 in
     (fx.0, same_bytes u b x.0 c y.0 units fx.1 fy.1 (units_some (u ∷ (x.0 + 256 * y.0) ∷ []) units y.1.1))
 
@@ -147,8 +147,8 @@ module _ (row : Row) (op : ℕ) (body : RawBody) (units rest : List ℕ) where
   pub three_bytes_say : (operands : Option (ℕ × ℕ × ℕ)) → three_bytes op operands ≡ Some units → units_of row ≡ 2 → ((a : ℕ) → refuses row a ≡ false)
       → ((p : ℕ × ℕ × ℕ) → p.1 < 256 → operands ≡ Some p → body_of row p.0 ((p.1 + 256 * p.2) ∷ rest) ≡ body) → Says row op body units rest
   three_bytes_say operands e long free says =
-      let o = bind_some operands (λ p. with_byte op p.0 >>= (λ u. below 256 p.1 >>= (λ b. below 256 p.2 >>= (λ c. as_units (u ∷ (b + 256 * c) ∷ []))))) units e in
-      let u = bind_some (with_byte op o.0.0) (λ u. below 256 o.0.1 >>= (λ b. below 256 o.0.2 >>= (λ c. as_units (u ∷ (b + 256 * c) ∷ [])))) units o.1.1 in
+      let o = bind_some operands (λ p. with_byte op p.0 >>= (λ u. number_below 256 p.1 >>= (λ b. number_below 256 p.2 >>= (λ c. as_units (u ∷ (b + 256 * c) ∷ []))))) units e in
+      let u = bind_some (with_byte op o.0.0) (λ u. number_below 256 o.0.1 >>= (λ b. number_below 256 o.0.2 >>= (λ c. as_units (u ∷ (b + 256 * c) ∷ [])))) units o.1.1 in
       let f = byte_some op o.0.0 u.0 u.1.0 in
       let b = two_bytes u.0 o.0.1 o.0.2 units u.1.1 in
       record {

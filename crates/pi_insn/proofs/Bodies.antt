@@ -25,7 +25,7 @@ use Rattle.pi_insn.specs.declared.table.Listing.TheVariants as listing
 use Rattle.pi_insn.specs.declared.raw.RawBody.{RawBody}
 use Rattle.pi_insn.specs.declared.raw.RawBody.TheVariants.{Nop, Move, MoveResult, MoveException, ReturnVoid, Return, Const, ConstWide, ConstString, ConstClass, Monitor, CheckCast, InstanceOf, ArrayLength, NewInstance, NewArray, Filled, FillArray, Throw, Goto, Switch, CmpLong, If, IfZ, Aget, Aput, Iget, Iput, Sget, Sput, Invoke, Unary, Binary, BinaryLit}
 use Rattle.pi_insn.specs.declared.raw.RawRegs.{RawRegs}
-use Rattle.pi_insn.specs.Numbers.{signed, extended, bits, shortened, shifted}
+use Rattle.pi_insn.specs.Numbers.{signed_number, signed_extension, bits, short_bits, exact_quotient}
 use Rattle.pi_insn.specs.Reading.{plain_body, single_body, pair_body, triple_body, literal_body, high_body, named_body, named_pair_body, payload_body, listing_body}
 use Rattle.pi_insn.specs.Writing.{single_of, pair_of, triple_of, literal_of, high_of, named_of, named_pair_of, payload_of, goto_of, test_of, compare_of, with_literal_of, listing_of, without_operands, zero_regs}
 use Rattle.pi_insn.proofs.Steps.{last_some, chosen, bits_some, shortened_some, shifted_some}
@@ -101,50 +101,50 @@ pub from_literal : (half : ℕ) (w : Literal) (body : RawBody) (p : ℕ × ℕ) 
     → without_operands body ≡ without_operands (literal_body w 0 half 0)
     → literal_of half body ≡ Some p → literal_body w p.0 half p.1 ≡ body
 from_literal half literal.Int (Const x v) p few h e =
-    let found = last_some (shortened half (2 ^ 32) v) (λ n. (x, n)) p e in
+    let found = last_some (short_bits half (2 ^ 32) v) (λ n. (x, n)) p e in
     rw found.1.1 (ap (Const x) (shortened_some half (2 ^ 32) v found.0 (omega arith) found.1.0))
 from_literal half literal.Long (ConstWide x v) p few h e =
-    let found = last_some (shortened half (2 ^ 64) v) (λ n. (x, n)) p e in
+    let found = last_some (short_bits half (2 ^ 64) v) (λ n. (x, n)) p e in
     rw found.1.1 (ap (ConstWide x) (shortened_some half (2 ^ 64) v found.0 (omega arith) found.1.0))
 from_literal half w body p few h e = cc
 
 pub from_high : (w : Literal) (body : RawBody) (p : ℕ × ℕ) → without_operands body ≡ without_operands (high_body w 0 0)
     → high_of body ≡ Some p → high_body w p.0 p.1 ≡ body
 from_high literal.Int (Const x v) p h e =
-    let found = last_some (shifted (2 ^ 16) v) (λ n. (x, n)) p e in
+    let found = last_some (exact_quotient (2 ^ 16) v) (λ n. (x, n)) p e in
     rw found.1.1 (ap (Const x) (shifted_some (2 ^ 16) v found.0 (omega arith) found.1.0))
 from_high literal.Long (ConstWide x v) p h e =
-    let found = last_some (shifted (2 ^ 48) v) (λ n. (x, n)) p e in
+    let found = last_some (exact_quotient (2 ^ 48) v) (λ n. (x, n)) p e in
     rw found.1.1 (ap (ConstWide x) (shifted_some (2 ^ 48) v found.0 (omega arith) found.1.0))
 from_high w body p h e = cc
 
 pub from_with_literal : (half : ℕ) (op : BinOp) (body : RawBody) (p : ℕ × ℕ × ℕ) → half ≤ 2 ^ 31
     → without_operands body ≡ BinaryLit op 0 0 0
-    → with_literal_of half body ≡ Some p → BinaryLit op p.0 p.1 (extended half (2 ^ 32) p.2) ≡ body
+    → with_literal_of half body ≡ Some p → BinaryLit op p.0 p.1 (signed_extension half (2 ^ 32) p.2) ≡ body
 from_with_literal half op (BinaryLit o x y v) p few h e =
-    let found = last_some (shortened half (2 ^ 32) v) (λ n. (x, y, n)) p e in
-    let value : extended half (2 ^ 32) found.0 ≡ v = shortened_some half (2 ^ 32) v found.0 (omega arith) found.1.0 in
+    let found = last_some (short_bits half (2 ^ 32) v) (λ n. (x, y, n)) p e in
+    let value : signed_extension half (2 ^ 32) found.0 ≡ v = shortened_some half (2 ^ 32) v found.0 (omega arith) found.1.0 in
     rw found.1.1 cc
 from_with_literal half op body p few h e = cc
 
 -- distances
-pub from_goto : (half : ℕ) (body : RawBody) (n : ℕ) → goto_of half body ≡ Some n → Goto (signed half n) ≡ body
+pub from_goto : (half : ℕ) (body : RawBody) (n : ℕ) → goto_of half body ≡ Some n → Goto (signed_number half n) ≡ body
 from_goto half (Goto z) n e = ap Goto (bits_some half z n e)
 from_goto half body n e = cc
 
 pub from_test : (half : ℕ) (c : Cond) (body : RawBody) (p : ℕ × ℕ) → without_operands body ≡ IfZ c 0 (pos 0)
-    → test_of half body ≡ Some p → IfZ c p.0 (signed half p.1) ≡ body
+    → test_of half body ≡ Some p → IfZ c p.0 (signed_number half p.1) ≡ body
 from_test half c (IfZ d x z) p h e =
     let found = last_some (bits half z) (λ n. (x, n)) p e in
-    let value : signed half found.0 ≡ z = bits_some half z found.0 found.1.0 in
+    let value : signed_number half found.0 ≡ z = bits_some half z found.0 found.1.0 in
     rw found.1.1 cc
 from_test half c body p h e = cc
 
 pub from_compare : (half : ℕ) (c : Cond) (body : RawBody) (p : ℕ × ℕ × ℕ) → without_operands body ≡ If c 0 0 (pos 0)
-    → compare_of half body ≡ Some p → If c p.0 p.1 (signed half p.2) ≡ body
+    → compare_of half body ≡ Some p → If c p.0 p.1 (signed_number half p.2) ≡ body
 from_compare half c (If d x y z) p h e =
     let found = last_some (bits half z) (λ n. (x, y, n)) p e in
-    let value : signed half found.0 ≡ z = bits_some half z found.0 found.1.0 in
+    let value : signed_number half found.0 ≡ z = bits_some half z found.0 found.1.0 in
     rw found.1.1 cc
 from_compare half c body p h e = cc
 

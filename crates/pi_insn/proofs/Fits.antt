@@ -26,15 +26,15 @@ use Rattle.pi_insn.specs.declared.raw.RawBody.TheVariants.{BinaryLit}
 use Rattle.pi_insn.specs.declared.raw.RawRegs.{RawRegs}
 use Rattle.pi_insn.specs.declared.raw.RawRegs.TheVariants.{Run}
 use Rattle.pi_insn.specs.Chain.{◌>>=◌}
-use Rattle.pi_insn.specs.Numbers.{signed, extended, below, bits, shortened, shifted, word, long}
+use Rattle.pi_insn.specs.Numbers.{signed_number, signed_extension, number_below, bits, short_bits, exact_quotient, word, long}
 use Rattle.pi_insn.specs.declared.raw.RawInsn.{RawInsn}
 use Rattle.pi_insn.specs.Table.{row_of, refuses}
-use Rattle.pi_insn.specs.Reading.{single_body, pair_body, triple_body, literal_body, high_body, named_body, named_pair_body, payload_body, listing_body, few, place, body_of, decoded}
-use Rattle.pi_insn.specs.Writing.{as_units, with_byte, with_pair, single_of, pair_of, triple_of, literal_of, high_of, named_of, named_pair_of, payload_of, with_literal_of, listing_of, few_of, byte_alone, pair_alone, unit_behind, byte_and_unit, pair_and_unit, three_bytes, two_units_behind, word_behind, byte_and_word, units_by, units_where, written}
+use Rattle.pi_insn.specs.Reading.{single_body, pair_body, triple_body, literal_body, high_body, named_body, named_pair_body, payload_body, listing_body, few, place, body_of, insn_in}
+use Rattle.pi_insn.specs.Writing.{as_units, with_byte, with_pair, single_of, pair_of, triple_of, literal_of, high_of, named_of, named_pair_of, payload_of, with_literal_of, listing_of, few_of, byte_alone, pair_alone, unit_behind, byte_and_unit, pair_and_unit, three_bytes, two_units_behind, word_behind, byte_and_word, units_by, units_where, encoding}
 use Rattle.pi_insn.proofs.Rounds.{read_there}
 
 -- numbers that fit
-below_ok : (limit n : ℕ) → n < limit → below limit n ≡ Some n
+below_ok : (limit n : ℕ) → n < limit → number_below limit n ≡ Some n
 below_ok limit n h = grind (arith, nat_tests)
 
 byte_ok : (op a : ℕ) → a < 256 → with_byte op a ≡ Some (op + 256 * a)
@@ -43,13 +43,13 @@ byte_ok op a h = ap (λ o. o >>= (λ a. Some (op + 256 * a))) (below_ok 256 a h)
 pair_ok : (op a b : ℕ) → a < 16 → b < 16 → with_pair op a b ≡ Some (op + 256 * a + 4096 * b)
 pair_ok op a b ha hb = rw (below_ok 16 a ha, below_ok 16 b hb) refl
 
-bits_ok : (half n : ℕ) → n < 2 * half → bits half (signed half n) ≡ Some n
+bits_ok : (half n : ℕ) → n < 2 * half → bits half (signed_number half n) ≡ Some n
 bits_ok half n h = grind (arith, nat_tests)
 
-shortened_ok : (half range n : ℕ) → 2 * half ≤ range → n < 2 * half → shortened half range (extended half range n) ≡ Some n
+shortened_ok : (half range n : ℕ) → 2 * half ≤ range → n < 2 * half → short_bits half range (signed_extension half range n) ≡ Some n
 shortened_ok half range n fits h = grind (arith, nat_tests)
 
-shifted_ok : (unit n : ℕ) → 0 < unit → shifted unit (n * unit) ≡ Some n
+shifted_ok : (unit n : ℕ) → 0 < unit → exact_quotient unit (n * unit) ≡ Some n
 shifted_ok unit n some = grind (arith, nat_tests)
 
 -- units that are units
@@ -114,7 +114,7 @@ literal_is literal.Int half a n few h = ap (λ o. o >>= (λ n. Some (a, n))) (sh
 literal_is literal.Long half a n few h = ap (λ o. o >>= (λ n. Some (a, n))) (shortened_ok half (2 ^ 64) n (omega arith) h)
 
 short_literal_is : (k : BinOp) (half a b n : ℕ) → half ≤ 2 ^ 31 → n < 2 * half
-    → with_literal_of half (BinaryLit k a b (extended half (2 ^ 32) n)) ≡ Some (a, b, n)
+    → with_literal_of half (BinaryLit k a b (signed_extension half (2 ^ 32) n)) ≡ Some (a, b, n)
 short_literal_is k half a b n few h = ap (λ o. o >>= (λ n. Some (a, b, n))) (shortened_ok half (2 ^ 32) n (omega arith) h)
 
 high_is : (w : Literal) (a n : ℕ) → high_of (high_body w a n) ≡ Some (a, n)
@@ -187,7 +187,7 @@ module _ (op : ℕ) (ho : op < 256) where
       rw (is, byte_ok op a ha, three_ok (op + 256 * a) (n % 65536) (n / 65536) u (omega arith) (omega arith)) refl
 
 -- the bits of a distance that was read
-distance_is : {A : Type 0} (half n : ℕ) (f : ℕ → A) → n < 2 * half → (bits half (signed half n) >>= (λ n. Some (f n))) ≡ Some (f n)
+distance_is : {A : Type 0} (half n : ℕ) (f : ℕ → A) → n < 2 * half → (bits half (signed_number half n) >>= (λ n. Some (f n))) ≡ Some (f n)
 distance_is half n f h = ap (λ o. o >>= (λ n. Some (f n))) (bits_ok half n h)
 
 pub writable : (row : Row) (op high : ℕ) (rest : List ℕ) → op < 256 → high < 256 → ((k : ℕ) → slice_index rest k < 65536)
@@ -258,12 +258,12 @@ fits_where o row op body e h =
     let P : Option Row → Type 0 = λ o. IsSome (units_where o op body) in
     subst P (sym e) h
 
-pub read_fits : (units : List ℕ) (i : RawInsn) (n : ℕ) → ((k : ℕ) → slice_index units k < 65536) → decoded units ≡ Ok (i, n) → IsSome (written i)
-unfolding written
+pub read_fits : (units : List ℕ) (i : RawInsn) (n : ℕ) → ((k : ℕ) → slice_index units k < 65536) → insn_in units ≡ Ok (i, n) → IsSome (encoding i)
+unfolding encoding
 read_fits [] i n fits e = cc
 read_fits (unit ∷ rest) i n fits e =
     let r = read_there (unit % 256) (row_of (unit % 256)) (unit / 256) rest i n e in
     let first = fits 0 in
-    let P : RawInsn → Type 0 = λ j. IsSome (written j) in
+    let P : RawInsn → Type 0 = λ j. IsSome (encoding j) in
     subst P r.1.2 (fits_where (row_of (unit % 256)) r.0 (unit % 256) (body_of r.0 (unit / 256) rest) r.1.0
     (writable r.0 (unit % 256) (unit / 256) rest (omega arith) (omega arith) (λ k. fits (suc k)) r.1.1))

@@ -31,8 +31,8 @@ use Rattle.pi_insn.specs.declared.raw.InsnError.{InsnError}
 use Rattle.pi_insn.specs.declared.raw.InsnError.TheVariants.{Unsupported, Cut}
 use Rattle.pi_insn.specs.Numbers.{word}
 use Rattle.pi_insn.specs.Table.{row_of, units_of, refuses}
-use Rattle.pi_insn.specs.Reading.{plain_body, single_body, pair_body, triple_body, literal_body, high_body, named_body, named_pair_body, payload_body, listing_body, few, place, body_of, insn, read, read_where, decoded, decoded_at}
-use Rattle.pi_insn.specs.Writing.{units_by, units_where, written, without_operands, zero_regs, AreFew, NamesFew, IsInTable}
+use Rattle.pi_insn.specs.Reading.{plain_body, single_body, pair_body, triple_body, literal_body, high_body, named_body, named_pair_body, payload_body, listing_body, few, place, body_of, insn, row_insn, insn_where, insn_in, insn_at}
+use Rattle.pi_insn.specs.Writing.{units_by, units_where, encoding, without_operands, zero_regs, AreFew, NamesFew, IsInTable}
 use Rattle.pi_insn.specs.declared.rows.TheConstants.{ROWS}
 use Rattle.pi_insn.proofs.Wide.{by_row}
 
@@ -48,8 +48,8 @@ eight_bits op row e = beyond ROWS op row e
 
 -- reading a row's units
 reads : (op : ℕ) (row : Row) (high : ℕ) (rest : List ℕ) → op < 256 → row_of op ≡ Some row → refuses row high ≡ false
-    → units_of row ≤ length rest + 1 → decoded ((op + 256 * high) ∷ rest) ≡ Ok (insn op (body_of row high rest), units_of row)
-unfolding read
+    → units_of row ≤ length rest + 1 → insn_in ((op + 256 * high) ∷ rest) ≡ Ok (insn op (body_of row high rest), units_of row)
+unfolding row_insn
 reads op row high rest less is passes enough =
     let low : (op + 256 * high) % 256 ≡ op = omega arith in
     let up : (op + 256 * high) / 256 ≡ high = omega arith in
@@ -71,19 +71,19 @@ drop_front (x ∷ before) rest = drop_front before rest
 whole_insn : (i : RawInsn) (body : RawBody) → body ≡ i.body → insn i.op body ≡ i
 whole_insn i body e = ap (insn i.op) e
 
-written_again : (i : RawInsn) (units rest : List ℕ) → IsInTable i → written i ≡ Some units → decoded (units ++ rest) ≡ Ok (i, length units)
-unfolding written
+written_again : (i : RawInsn) (units rest : List ℕ) → IsInTable i → encoding i ≡ Some units → insn_in (units ++ rest) ≡ Ok (i, length units)
+unfolding encoding
 written_again i units rest there is =
     let r = row_there (row_of i.op) i.op i.body units is there.listed in
     let s = by_row r.0 i.op i.body units rest r.1.1 r.1.2 there.registers in
     let enough : units_of r.0 ≤ length (s.tail ++ rest) + 1 = simp length-append (omega (arith, s.whole)) in
     let read_is = reads i.op r.0 s.high (s.tail ++ rest) (eight_bits i.op r.0 r.1.0) r.1.0 s.passes enough in
     let long_is : units_of r.0 ≡ length ((i.op + 256 * s.high) ∷ s.tail) = omega (arith, s.whole) in
-    let P : List ℕ → Type 0 = λ us. decoded (us ++ rest) ≡ Ok (i, length us) in
+    let P : List ℕ → Type 0 = λ us. insn_in (us ++ rest) ≡ Ok (i, length us) in
     subst P (sym s.are) (read_is ∙ ap (λ (q : RawInsn × ℕ). Ok q) (rw (whole_insn i (body_of r.0 s.high (s.tail ++ rest)) s.body_is, long_is) refl))
 
-pub written_is_read : (i : RawInsn) (units before rest : List ℕ) → IsInTable i → written i ≡ Some units
-    → decoded_at (before ++ (units ++ rest)) (length before) ≡ Ok (i, length units)
+pub written_is_read : (i : RawInsn) (units before rest : List ℕ) → IsInTable i → encoding i ≡ Some units
+    → insn_at (before ++ (units ++ rest)) (length before) ≡ Ok (i, length units)
 written_is_read i units before rest there is = rw (drop_front before (units ++ rest)) (written_again i units rest there is)
 
 -- the answer of reading by its two tests
@@ -100,9 +100,9 @@ read_ok false false op found i n e =
     (refl, ap (λ (q : RawInsn × ℕ). q.0) same)
 
 -- what was read: the row, which does not refuse it, and its operands
-pub read_there : (op : ℕ) (o : Option Row) (high : ℕ) (rest : List ℕ) (i : RawInsn) (n : ℕ) → read_where op o high rest ≡ Ok (i, n)
+pub read_there : (op : ℕ) (o : Option Row) (high : ℕ) (rest : List ℕ) (i : RawInsn) (n : ℕ) → insn_where op o high rest ≡ Ok (i, n)
     → (row : Row) × ((o ≡ Some row) × (refuses row high ≡ false) × (insn op (body_of row high rest) ≡ i))
-unfolding read answer
+unfolding row_insn answer
 read_there op None high rest i n e = cc
 read_there op (Some row) high rest i n e =
     let ok = read_ok (refuses row high) (nat_lt (length rest + 1) (units_of row)) op (insn op (body_of row high rest), units_of row) i n e in
@@ -216,7 +216,7 @@ listed_there o row body e h =
     let P : Option Row → Type 0 = λ o. IsSomeAnd o (λ row. without_operands body ≡ without_operands (body_of row 0 [])) in
     subst P (sym e) h
 
-where_in_table : (op high : ℕ) (rest : List ℕ) (i : RawInsn) (n : ℕ) → read_where op (row_of op) high rest ≡ Ok (i, n) → IsInTable i
+where_in_table : (op high : ℕ) (rest : List ℕ) (i : RawInsn) (n : ℕ) → insn_where op (row_of op) high rest ≡ Ok (i, n) → IsInTable i
 where_in_table op high rest i n e =
     let r = read_there op (row_of op) high rest i n e in
     let alike = row_alike r.0 high rest r.1.1 in
@@ -225,12 +225,12 @@ where_in_table op high rest i n e =
       registers = alike.1;
     })
 
-pub read_is_in_table : (units : List ℕ) (i : RawInsn) (n : ℕ) → decoded units ≡ Ok (i, n) → IsInTable i
+pub read_is_in_table : (units : List ℕ) (i : RawInsn) (n : ℕ) → insn_in units ≡ Ok (i, n) → IsInTable i
 read_is_in_table [] i n e = cc
 read_is_in_table (unit ∷ rest) i n e = where_in_table (unit % 256) (unit / 256) rest i n e
 
 -- what reading answers may be written
-pub may_be_written : (op high : ℕ) (rest : List ℕ) (r : Result (RawInsn × ℕ) InsnError) → r ≡ read_where op (row_of op) high rest
+pub may_be_written : (op high : ℕ) (rest : List ℕ) (r : Result (RawInsn × ℕ) InsnError) → r ≡ insn_where op (row_of op) high rest
     → IfOk r (λ found. IsInTable found.0)
 may_be_written op high rest (Ok found) e = where_in_table op high rest found.0 found.1 (sym e)
 may_be_written op high rest (Err fault) e = tt

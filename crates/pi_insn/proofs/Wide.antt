@@ -13,7 +13,7 @@ use Rattle.pi_insn.specs.declared.raw.RawBody.TheVariants.{ConstWide}
 use Rattle.pi_insn.specs.declared.raw.RawRegs.{RawRegs}
 use Rattle.pi_insn.specs.declared.raw.RawRegs.TheVariants.{Few, Run}
 use Rattle.pi_insn.specs.Chain.{◌>>=◌}
-use Rattle.pi_insn.specs.Numbers.{below}
+use Rattle.pi_insn.specs.Numbers.{number_below}
 use Rattle.pi_insn.specs.Reading.{listing_body, few, place, body_of}
 use Rattle.pi_insn.specs.Writing.{as_units, with_byte, listing_of, few_of, few_units, run_units, units_35c, units_3rc, units_51l, units_by, without_operands, zero_regs, AreFew, NamesFew}
 use Rattle.pi_insn.proofs.Steps.{bind_some, below_some, units_some, byte_some}
@@ -90,20 +90,20 @@ record Five (op i n c d e f g : ℕ) (units : List ℕ) : Type 0 where
   are : units ≡ (op + 256 * (g + 16 * n)) ∷ i ∷ (c + 16 * d + 256 * e + 4096 * f) ∷ []
 
 -- a number that passes a limit goes on as it is
-passed : {B : Type 0} (limit n : ℕ) (f : ℕ → Option B) (y : B) → (below limit n >>= f) ≡ Some y → (n < limit) × (f n ≡ Some y)
+passed : {B : Type 0} (limit n : ℕ) (f : ℕ → Option B) (y : B) → (number_below limit n >>= f) ≡ Some y → (n < limit) × (f n ≡ Some y)
 passed limit n f y e =
-    let found = bind_some (below limit n) f y e in
+    let found = bind_some (number_below limit n) f y e in
     let fits = below_some limit n found.0 found.1.0 in
     let P : ℕ → Type 0 = λ x. f x ≡ Some y in
     (fits.0, subst P fits.1 found.1.1)
 
 five_some : (op i n c d e f g : ℕ) (units : List ℕ) → few_of op i n (c ∷ d ∷ e ∷ f ∷ g ∷ []) ≡ Some units → Five op i n c d e f g units
 five_some op i n c d e f g units is =
-    let pn = passed 6 n (λ n. below 16 c >>= (λ c. below 16 d >>= (λ d. below 16 e >>= (λ e. below 16 f >>= (λ f. below 16 g >>= (λ g. as_units ((op + 256 * (g + 16 * n)) ∷ i ∷ (c + 16 * d + 256 * e + 4096 * f) ∷ []))))))) units is in
-    let pc = passed 16 c (λ c. below 16 d >>= (λ d. below 16 e >>= (λ e. below 16 f >>= (λ f. below 16 g >>= (λ g. as_units ((op + 256 * (g + 16 * n)) ∷ i ∷ (c + 16 * d + 256 * e + 4096 * f) ∷ [])))))) units pn.1 in
-    let pd = passed 16 d (λ d. below 16 e >>= (λ e. below 16 f >>= (λ f. below 16 g >>= (λ g. as_units ((op + 256 * (g + 16 * n)) ∷ i ∷ (c + 16 * d + 256 * e + 4096 * f) ∷ []))))) units pc.1 in
-    let pe = passed 16 e (λ e. below 16 f >>= (λ f. below 16 g >>= (λ g. as_units ((op + 256 * (g + 16 * n)) ∷ i ∷ (c + 16 * d + 256 * e + 4096 * f) ∷ [])))) units pd.1 in
-    let pf = passed 16 f (λ f. below 16 g >>= (λ g. as_units ((op + 256 * (g + 16 * n)) ∷ i ∷ (c + 16 * d + 256 * e + 4096 * f) ∷ []))) units pe.1 in
+    let pn = passed 6 n (λ n. number_below 16 c >>= (λ c. number_below 16 d >>= (λ d. number_below 16 e >>= (λ e. number_below 16 f >>= (λ f. number_below 16 g >>= (λ g. as_units ((op + 256 * (g + 16 * n)) ∷ i ∷ (c + 16 * d + 256 * e + 4096 * f) ∷ []))))))) units is in
+    let pc = passed 16 c (λ c. number_below 16 d >>= (λ d. number_below 16 e >>= (λ e. number_below 16 f >>= (λ f. number_below 16 g >>= (λ g. as_units ((op + 256 * (g + 16 * n)) ∷ i ∷ (c + 16 * d + 256 * e + 4096 * f) ∷ [])))))) units pn.1 in
+    let pd = passed 16 d (λ d. number_below 16 e >>= (λ e. number_below 16 f >>= (λ f. number_below 16 g >>= (λ g. as_units ((op + 256 * (g + 16 * n)) ∷ i ∷ (c + 16 * d + 256 * e + 4096 * f) ∷ []))))) units pc.1 in
+    let pe = passed 16 e (λ e. number_below 16 f >>= (λ f. number_below 16 g >>= (λ g. as_units ((op + 256 * (g + 16 * n)) ∷ i ∷ (c + 16 * d + 256 * e + 4096 * f) ∷ [])))) units pd.1 in
+    let pf = passed 16 f (λ f. number_below 16 g >>= (λ g. as_units ((op + 256 * (g + 16 * n)) ∷ i ∷ (c + 16 * d + 256 * e + 4096 * f) ∷ []))) units pe.1 in
     let pg = passed 16 g (λ g. as_units ((op + 256 * (g + 16 * n)) ∷ i ∷ (c + 16 * d + 256 * e + 4096 * f) ∷ [])) units pf.1 in
     record {
       fits_n = pn.0;

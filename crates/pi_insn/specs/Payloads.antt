@@ -1,6 +1,6 @@
 -- The data that fill-array-data and the switches point at.
 use Rattle.std.specs.Prelude.{ℕ, ◌+◌, ◌*◌, ◌/◌, ◌==◌, ◌||◌, nat_lt, Bool, List, [], ◌∷◌, length, take, drop, ℤ, Option, Some, None, if◌then◌else◌}
-use Rattle.pi_insn.specs.Numbers.{signed, word}
+use Rattle.pi_insn.specs.Numbers.{signed_number, word}
 
 -- a payload with its units; a 32-bit number is two of them, the low one first
 pub data Data : Type 0 where
@@ -9,10 +9,10 @@ pub data Data : Type 0 where
   ArrayData : ℕ → ℕ → List ℕ → Data
 
 -- the number of keys and targets, the first key and a target for each key
-abbrev pub packed : ℕ → List ℕ → Option Data
-packed size rest =
+abbrev pub packed_data : ℕ → List ℕ → Option Data
+packed_data size rest =
     if nat_lt (length rest) (2 + 2 * size) then None
-    else Some (PackedData (signed 2147483648 (word rest 0)) (take (2 * size) (drop 2 rest)))
+    else Some (PackedData (signed_number 2147483648 (word rest 0)) (take (2 * size) (drop 2 rest)))
 
 -- a key for each target and then the targets
 abbrev pub sparse : ℕ → List ℕ → Option Data
@@ -42,7 +42,7 @@ unfoldable pub payload : List ℕ → Option Data
 payload [] = None
 payload (kind ∷ []) = None
 payload (kind ∷ second ∷ rest) =
-    if kind == 0x0100 then packed second rest else
+    if kind == 0x0100 then packed_data second rest else
     if kind == 0x0200 then sparse second rest else
     if kind == 0x0300 then array second rest else None
 

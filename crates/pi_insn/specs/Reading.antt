@@ -27,7 +27,7 @@ use Rattle.pi_insn.specs.declared.raw.RawRegs.{RawRegs}
 use Rattle.pi_insn.specs.declared.raw.RawRegs.TheVariants.{Few, Run}
 use Rattle.pi_insn.specs.declared.raw.InsnError.{InsnError}
 use Rattle.pi_insn.specs.declared.raw.InsnError.TheVariants.{Unsupported, Cut}
-use Rattle.pi_insn.specs.Numbers.{signed, extended, word, long}
+use Rattle.pi_insn.specs.Numbers.{signed_number, signed_extension, word, long}
 use Rattle.pi_insn.specs.Table.{row_of, units_of, refuses}
 
 abbrev pub plain_body : Plain → RawBody
@@ -56,8 +56,8 @@ triple_body (triple.Binary op) a b c = Binary op a b c
 
 -- a constant of bits that are extended by their sign
 abbrev pub literal_body : Literal → ℕ → ℕ → ℕ → RawBody
-literal_body literal.Int a half n = Const a (extended half (2 ^ 32) n)
-literal_body literal.Long a half n = ConstWide a (extended half (2 ^ 64) n)
+literal_body literal.Int a half n = Const a (signed_extension half (2 ^ 32) n)
+literal_body literal.Long a half n = ConstWide a (signed_extension half (2 ^ 64) n)
 
 -- a constant whose top unit is given
 abbrev pub high_body : Literal → ℕ → ℕ → RawBody
@@ -79,8 +79,8 @@ named_pair_body (named_pair.Iget k) a b i = Iget k a b i
 named_pair_body (named_pair.Iput k) a b i = Iput k a b i
 
 abbrev pub payload_body : Payloads → ℕ → ℕ → RawBody
-payload_body payloads.FillArray a n = FillArray a (signed 2147483648 n)
-payload_body payloads.Switch a n = Switch a (signed 2147483648 n)
+payload_body payloads.FillArray a n = FillArray a (signed_number 2147483648 n)
+payload_body payloads.Switch a n = Switch a (signed_number 2147483648 n)
 
 abbrev pub listing_body : Listing → ℕ → RawRegs → RawBody
 listing_body listing.Filled i regs = Filled i regs
@@ -101,19 +101,19 @@ body_of (F10x w) high rest = plain_body w
 body_of (F12x w) high rest = pair_body w (high % 16) (high / 16)
 body_of F11n high rest = literal_body literal.Int (high % 16) 8 (high / 16)
 body_of (F11x w) high rest = single_body w high
-body_of F10t high rest = Goto (signed 128 high)
-body_of F20t high rest = Goto (signed 32768 (slice_index rest 0))
+body_of F10t high rest = Goto (signed_number 128 high)
+body_of F20t high rest = Goto (signed_number 32768 (slice_index rest 0))
 body_of (F22x k) high rest = Move k high (slice_index rest 0)
-body_of (F21t c) high rest = IfZ c high (signed 32768 (slice_index rest 0))
+body_of (F21t c) high rest = IfZ c high (signed_number 32768 (slice_index rest 0))
 body_of (F21s w) high rest = literal_body w high 32768 (slice_index rest 0)
 body_of (F21h w) high rest = high_body w high (slice_index rest 0)
 body_of (F21c w) high rest = named_body w high (slice_index rest 0)
 body_of (F23x w) high rest = triple_body w high (slice_index rest 0 % 256) (slice_index rest 0 / 256)
-body_of (F22b op) high rest = BinaryLit op high (slice_index rest 0 % 256) (extended 128 (2 ^ 32) (slice_index rest 0 / 256))
-body_of (F22t c) high rest = If c (high % 16) (high / 16) (signed 32768 (slice_index rest 0))
-body_of (F22s op) high rest = BinaryLit op (high % 16) (high / 16) (extended 32768 (2 ^ 32) (slice_index rest 0))
+body_of (F22b op) high rest = BinaryLit op high (slice_index rest 0 % 256) (signed_extension 128 (2 ^ 32) (slice_index rest 0 / 256))
+body_of (F22t c) high rest = If c (high % 16) (high / 16) (signed_number 32768 (slice_index rest 0))
+body_of (F22s op) high rest = BinaryLit op (high % 16) (high / 16) (signed_extension 32768 (2 ^ 32) (slice_index rest 0))
 body_of (F22c w) high rest = named_pair_body w (high % 16) (high / 16) (slice_index rest 0)
-body_of F30t high rest = Goto (signed 2147483648 (word rest 0))
+body_of F30t high rest = Goto (signed_number 2147483648 (word rest 0))
 body_of (F32x k) high rest = Move k (slice_index rest 0) (slice_index rest 1)
 body_of (F31i w) high rest = literal_body w high 2147483648 (word rest 0)
 body_of (F31t w) high rest = payload_body w high (word rest 0)
@@ -126,21 +126,21 @@ abbrev pub insn : ℕ → RawBody → RawInsn
 insn op body = record { op = op; body = body }
 
 -- the instruction of a row and its length: none where the high byte is not one of the format, and then none where units are wanting
-unfoldable pub read : ℕ → Row → ℕ → List ℕ → Result (RawInsn × ℕ) InsnError
-read op row high rest =
+unfoldable pub row_insn : ℕ → Row → ℕ → List ℕ → Result (RawInsn × ℕ) InsnError
+row_insn op row high rest =
     if refuses row high then Err (Unsupported op) else
     if nat_lt (length rest + 1) (units_of row) then Err Cut else
     Ok (insn op (body_of row high rest), units_of row)
 
-abbrev pub read_where : ℕ → Option Row → ℕ → List ℕ → Result (RawInsn × ℕ) InsnError
-read_where op None high rest = Err (Unsupported op)
-read_where op (Some row) high rest = read op row high rest
+abbrev pub insn_where : ℕ → Option Row → ℕ → List ℕ → Result (RawInsn × ℕ) InsnError
+insn_where op None high rest = Err (Unsupported op)
+insn_where op (Some row) high rest = row_insn op row high rest
 
 -- the instruction with which these units begin, and its length; the opcode is the low byte of the first unit
-abbrev pub decoded : List ℕ → Result (RawInsn × ℕ) InsnError
-decoded [] = Err Cut
-decoded (unit ∷ rest) = read_where (unit % 256) (row_of (unit % 256)) (unit / 256) rest
+abbrev pub insn_in : List ℕ → Result (RawInsn × ℕ) InsnError
+insn_in [] = Err Cut
+insn_in (unit ∷ rest) = insn_where (unit % 256) (row_of (unit % 256)) (unit / 256) rest
 
 -- the instruction at a place
-abbrev pub decoded_at : List ℕ → ℕ → Result (RawInsn × ℕ) InsnError
-decoded_at units at = decoded (drop at units)
+abbrev pub insn_at : List ℕ → ℕ → Result (RawInsn × ℕ) InsnError
+insn_at units at = insn_in (drop at units)

@@ -11,7 +11,7 @@ use Rattle.pi_insn.specs.declared.raw.RawRegs.TheVariants.{Few, Run}
 use Rattle.pi_insn.specs.declared.fault.EncodeError.{EncodeError}
 use Rattle.pi_insn.specs.declared.fault.EncodeError.TheVariants.{OutOfMemory, Range}
 use Rattle.pi_insn.specs.Chain.{◌>>=◌}
-use Rattle.pi_insn.specs.Numbers.{below, bits, shortened, shifted}
+use Rattle.pi_insn.specs.Numbers.{number_below, bits, short_bits, exact_quotient}
 use Rattle.pi_insn.specs.Table.{row_of}
 use Rattle.pi_insn.specs.Reading.{body_of}
 
@@ -21,10 +21,10 @@ as_units units = if list_all (λ u. nat_lt u 65536) units then Some units else N
 
 -- the first unit of a format with a byte behind the opcode, and of one with two numbers of four bits there
 abbrev pub with_byte : ℕ → ℕ → Option ℕ
-with_byte op a = below 256 a >>= (λ a. Some (op + 256 * a))
+with_byte op a = number_below 256 a >>= (λ a. Some (op + 256 * a))
 
 abbrev pub with_pair : ℕ → ℕ → ℕ → Option ℕ
-with_pair op a b = below 16 a >>= (λ a. below 16 b >>= (λ b. Some (op + 256 * a + 4096 * b)))
+with_pair op a b = number_below 16 a >>= (λ a. number_below 16 b >>= (λ b. Some (op + 256 * a + 4096 * b)))
 
 -- a first unit and one more, and a first unit with a 32-bit number
 abbrev pub with_unit : Option ℕ → ℕ → Option (List ℕ)
@@ -62,13 +62,13 @@ triple_of _ = None
 
 -- the register of a constant and its bits, of which half are so many; the bits of one that is given by its top unit
 abbrev pub literal_of : ℕ → RawBody → Option (ℕ × ℕ)
-literal_of half (Const a v) = shortened half (2 ^ 32) v >>= (λ n. Some (a, n))
-literal_of half (ConstWide a v) = shortened half (2 ^ 64) v >>= (λ n. Some (a, n))
+literal_of half (Const a v) = short_bits half (2 ^ 32) v >>= (λ n. Some (a, n))
+literal_of half (ConstWide a v) = short_bits half (2 ^ 64) v >>= (λ n. Some (a, n))
 literal_of half _ = None
 
 abbrev pub high_of : RawBody → Option (ℕ × ℕ)
-high_of (Const a v) = shifted (2 ^ 16) v >>= (λ n. Some (a, n))
-high_of (ConstWide a v) = shifted (2 ^ 48) v >>= (λ n. Some (a, n))
+high_of (Const a v) = exact_quotient (2 ^ 16) v >>= (λ n. Some (a, n))
+high_of (ConstWide a v) = exact_quotient (2 ^ 48) v >>= (λ n. Some (a, n))
 high_of _ = None
 
 -- the register and the index of an instruction with these
@@ -108,7 +108,7 @@ compare_of half _ = None
 
 -- the registers and the bits of an operation with a literal
 abbrev pub with_literal_of : ℕ → RawBody → Option (ℕ × ℕ × ℕ)
-with_literal_of half (BinaryLit op a b v) = shortened half (2 ^ 32) v >>= (λ n. Some (a, b, n))
+with_literal_of half (BinaryLit op a b v) = short_bits half (2 ^ 32) v >>= (λ n. Some (a, b, n))
 with_literal_of half _ = None
 
 -- the index and the registers of an instruction that names several
@@ -120,7 +120,7 @@ listing_of _ = None
 -- the units of at most five registers: their number and the fifth stand behind the opcode, the first four in a unit
 abbrev pub few_of : ℕ → ℕ → ℕ → List ℕ → Option (List ℕ)
 few_of op i n (c ∷ d ∷ e ∷ f ∷ g ∷ []) =
-    below 6 n >>= (λ n. below 16 c >>= (λ c. below 16 d >>= (λ d. below 16 e >>= (λ e. below 16 f >>= (λ f. below 16 g >>= (λ g.
+    number_below 6 n >>= (λ n. number_below 16 c >>= (λ c. number_below 16 d >>= (λ d. number_below 16 e >>= (λ e. number_below 16 f >>= (λ f. number_below 16 g >>= (λ g.
     as_units ((op + 256 * (g + 16 * n)) ∷ i ∷ (c + 16 * d + 256 * e + 4096 * f) ∷ [])))))))
 few_of op i n _ = None
 
@@ -155,7 +155,7 @@ abbrev pub pair_and_unit : ℕ → Option (ℕ × ℕ × ℕ) → Option (List �
 pair_and_unit op operands = operands >>= (λ p. with_unit (with_pair op p.0 p.1) p.2)
 
 abbrev pub three_bytes : ℕ → Option (ℕ × ℕ × ℕ) → Option (List ℕ)
-three_bytes op operands = operands >>= (λ p. with_byte op p.0 >>= (λ u. below 256 p.1 >>= (λ b. below 256 p.2 >>= (λ c. as_units (u ∷ (b + 256 * c) ∷ [])))))
+three_bytes op operands = operands >>= (λ p. with_byte op p.0 >>= (λ u. number_below 256 p.1 >>= (λ b. number_below 256 p.2 >>= (λ c. as_units (u ∷ (b + 256 * c) ∷ [])))))
 
 abbrev pub two_units_behind : ℕ → Option (ℕ × ℕ) → Option (List ℕ)
 two_units_behind op operands = operands >>= (λ p. as_units (op ∷ p.0 ∷ p.1 ∷ []))
@@ -208,8 +208,8 @@ units_where None op body = None
 units_where (Some row) op body = units_by row op body
 
 -- the units of an instruction, where each operand fits the format of its opcode
-unfoldable pub written : RawInsn → Option (List ℕ)
-written i = units_where (row_of i.op) i.op i.body
+unfoldable pub encoding : RawInsn → Option (List ℕ)
+encoding i = units_where (row_of i.op) i.op i.body
 
 abbrev pub zero_regs : RawRegs → RawRegs
 zero_regs (Few n regs) = Few 0 (0 ∷ 0 ∷ 0 ∷ 0 ∷ 0 ∷ [])

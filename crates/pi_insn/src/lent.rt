@@ -2,7 +2,7 @@
 
 ghost use Rattle.std.specs.Prelude.{◌≡◌, ◌+◌, ◌*◌, ◌≤◌, length, drop, IfSome, IfNone, ◌<◌, ◌^◌, take};
 ghost use Rattle.pi_insn.specs.Lent.{data_of};
-ghost use Rattle.pi_insn.specs.Payloads.{packed, sparse, array, payload_at, units_for, is_width};
+ghost use Rattle.pi_insn.specs.Payloads.{packed_data, sparse, array, payload_at, units_for, is_width};
 
 use crate::data::Payload;
 use crate::numbers::{signed, word};
@@ -26,8 +26,8 @@ fn behind(units: &[u16], n: usize) -> &[u16]
 }
 
 fn packed(size: u16, rest: &[u16]) -> Option<Payload<'_>>
-    ensures none { IfNone result (packed size rest.now ≡ None) }
-    ensures some { IfSome result (λ p. packed size rest.now ≡ Some (data_of p)) }
+    ensures none { IfNone result (packed_data size rest.now ≡ None) }
+    ensures some { IfSome result (λ p. packed_data size rest.now ≡ Some (data_of p)) }
 {
     let n = 2 * size as usize;
     if rest.len() < 2 + n {

@@ -2,13 +2,13 @@
 
 ghost use Rattle.std.specs.Prelude.{◌≡◌, ◌+◌, ◌*◌, ◌<◌, ◌≤◌, ◌^◌, length};
 ghost use Rattle.std.specs.Int.{w32, cast_signed};
-ghost use Rattle.pi_insn.specs.Numbers.{signed, extended, word, long};
+ghost use Rattle.pi_insn.specs.Numbers.{signed_number, signed_extension, word, long};
 
 /// The signed number of these bits, where `half` is half of their range.
 pub fn signed(half: u32, n: u32) -> i32
     requires half { half ≤ 2 ^ 31 }
     requires range { n < 2 * half }
-    ensures { result ≡ signed half n }
+    ensures { result ≡ signed_number half n }
 {
     if n < half {
         n as i32
@@ -21,7 +21,7 @@ pub fn signed(half: u32, n: u32) -> i32
 pub fn extended_int(half: u32, n: u32) -> u32
     requires half { half ≤ 2 ^ 31 }
     requires range { n < 2 * half }
-    ensures { result ≡ extended half (2 ^ 32) n }
+    ensures { result ≡ signed_extension half (2 ^ 32) n }
 {
     if n < half {
         n
@@ -34,7 +34,7 @@ pub fn extended_int(half: u32, n: u32) -> u32
 pub fn extended_long(half: u64, n: u64) -> u64
     requires half { half ≤ 2 ^ 31 }
     requires range { n < 2 * half }
-    ensures { result ≡ extended half (2 ^ 64) n }
+    ensures { result ≡ signed_extension half (2 ^ 64) n }
 {
     if n < half {
         n

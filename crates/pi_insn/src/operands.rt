@@ -1,7 +1,7 @@
 // The operands of an instruction, where it is one of those that a format has.
 
 ghost use Rattle.std.specs.Prelude.{◌≡◌, ◌≤◌, ◌^◌};
-ghost use Rattle.pi_insn.specs.Numbers.{bits, shifted, shortened};
+ghost use Rattle.pi_insn.specs.Numbers.{bits, exact_quotient, short_bits};
 ghost use Rattle.pi_insn.specs.Writing.{single_of, pair_of, triple_of, literal_of, high_of, named_of, named_pair_of, payload_of, goto_of, test_of, compare_of, with_literal_of, listing_of};
 
 use crate::packed::{bits, shortened_int, shortened_long};

@@ -1,7 +1,7 @@
 // The units of an instruction before memory is taken for them, and the numbers in them.
 
 ghost use Rattle.std.specs.Prelude.{◌≡◌, ◌%◌, ◌/◌, ◌+◌, ◌*◌, ◌≤◌, ◌<◌, ◌^◌, Some, [], ◌∷◌};
-ghost use Rattle.pi_insn.specs.Numbers.{below, bits, shortened, shifted};
+ghost use Rattle.pi_insn.specs.Numbers.{number_below, bits, short_bits, exact_quotient};
 ghost use Rattle.pi_insn.specs.Packed.{list_of};
 ghost use Rattle.pi_insn.specs.Writing.{as_units, with_byte, with_pair};
 
@@ -71,7 +71,7 @@ pub fn with_long(first: u16, n: u64) -> Packed
 
 /// The number, where it is below a limit.
 pub fn below(limit: u16, n: u16) -> Option<u16>
-    ensures { result ≡ below limit n }
+    ensures { result ≡ number_below limit n }
 {
     if n < limit { Some(n) } else { None }
 }
@@ -113,7 +113,7 @@ pub fn bits(half: u32, n: i32) -> Option<u32>
 pub fn shortened_int(half: u32, n: u32) -> Option<u32>
     requires some { 1 ≤ half }
     requires half { half ≤ 2 ^ 31 }
-    ensures { result ≡ shortened half (2 ^ 32) n }
+    ensures { result ≡ short_bits half (2 ^ 32) n }
 {
     if n < half {
         return Some(n);
@@ -128,7 +128,7 @@ pub fn shortened_int(half: u32, n: u32) -> Option<u32>
 pub fn shortened_long(half: u64, n: u64) -> Option<u64>
     requires some { 1 ≤ half }
     requires half { half ≤ 2 ^ 31 }
-    ensures { result ≡ shortened half (2 ^ 64) n }
+    ensures { result ≡ short_bits half (2 ^ 64) n }
 {
     if n < half {
         return Some(n);

@@ -2,10 +2,10 @@
 // says.
 
 ghost use Rattle.std.specs.Prelude.{◌≡◌, ◌%◌, ◌/◌, ◌+◌, ◌*◌, ◌<◌, ◌≤◌, ◌^◌, length, IfOk};
-ghost use Rattle.pi_insn.specs.Numbers.{signed, extended};
+ghost use Rattle.pi_insn.specs.Numbers.{signed_number, signed_extension};
 ghost use Rattle.pi_insn.specs.Table.{row_of, units_of};
 ghost use Rattle.pi_insn.specs.Writing.{IsInTable};
-ghost use Rattle.pi_insn.specs.Reading.{plain_body, single_body, pair_body, triple_body, literal_body, high_body, named_body, named_pair_body, payload_body, listing_body, few, place, body_of, read_where, decoded_at};
+ghost use Rattle.pi_insn.specs.Reading.{plain_body, single_body, pair_body, triple_body, literal_body, high_body, named_body, named_pair_body, payload_body, listing_body, few, place, body_of, insn_where, insn_at};
 
 use crate::numbers::{extended_int, extended_long, long, signed, word};
 use crate::raw::{InsnError, RawBody, RawInsn, RawRegs};
@@ -171,7 +171,7 @@ fn few(high: u8, unit: u16) -> RawRegs
 
 /// The distance of a branch that has one unit for it.
 fn distance(unit: u16) -> i32
-    ensures { result ≡ signed 32768 unit }
+    ensures { result ≡ signed_number 32768 unit }
 {
     signed(32768, unit as u32)
 }
@@ -207,7 +207,7 @@ fn with_literal(op: BinOp, a: u16, b: u16, v: u32) -> RawBody
 }
 
 fn literal_byte(op: BinOp, a: u16, unit: u16) -> RawBody
-    ensures { result ≡ RawBody.BinaryLit op a (unit % 256) (extended 128 (2 ^ 32) (unit / 256)) }
+    ensures { result ≡ RawBody.BinaryLit op a (unit % 256) (signed_extension 128 (2 ^ 32) (unit / 256)) }
 {
     RawBody::BinaryLit {
         op,
@@ -266,10 +266,10 @@ fn body_of(row: Row, high: u8, rest: &[u16]) -> RawBody
 }
 
 /// The instruction of an opcode, and its length in units.
-#[tactic(auto, unfolding(crate::specs::Reading::read))]
+#[tactic(auto, unfolding(crate::specs::Reading::row_insn))]
 fn read(op: u8, high: u8, rest: &[u16]) -> Result<(RawInsn, usize), InsnError>
     requires { length rest.now < 2 ^ 63 }
-    ensures value { result ≡ read_where op (row_of op) high rest.now }
+    ensures value { result ≡ insn_where op (row_of op) high rest.now }
     ensures inside { IfOk result (λ found. found.1 ≤ length rest.now + 1) }
     ensures some { IfOk result (λ found. 1 ≤ found.1) }
 {
@@ -292,7 +292,7 @@ fn read(op: u8, high: u8, rest: &[u16]) -> Result<(RawInsn, usize), InsnError>
 /// `Cut` exactly where units of it are wanting. What is read may be written. The formats are the published ones.
 pub fn decode(units: &[u16], at: usize) -> Result<(RawInsn, usize), InsnError>
     requires { at < length units.now }
-    ensures value { result ≡ decoded_at units.now at }
+    ensures value { result ≡ insn_at units.now at }
     ensures inside { IfOk result (λ found. at + found.1 ≤ length units.now) }
     ensures some { IfOk result (λ found. 1 ≤ found.1) }
     ensures listed { IfOk result (λ found. IsInTable found.0) }

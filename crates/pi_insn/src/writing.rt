@@ -3,7 +3,7 @@
 
 ghost use Rattle.std.specs.Prelude.{◌≡◌, Some, [], ◌∷◌};
 ghost use Rattle.pi_insn.specs.Packed.{list_where};
-ghost use Rattle.pi_insn.specs.Writing.{as_units, single_of, pair_of, triple_of, literal_of, with_literal_of, goto_of, byte_alone, pair_alone, unit_behind, byte_and_unit, pair_and_unit, three_bytes, two_units_behind, word_behind, byte_and_word, units_35c, units_3rc, units_51l, units_by, few_of, few_units, run_units, units_where, written, IsInTable, Writes};
+ghost use Rattle.pi_insn.specs.Writing.{as_units, single_of, pair_of, triple_of, literal_of, with_literal_of, goto_of, byte_alone, pair_alone, unit_behind, byte_and_unit, pair_and_unit, three_bytes, two_units_behind, word_behind, byte_and_word, units_35c, units_3rc, units_51l, units_by, few_of, few_units, run_units, units_where, encoding, IsInTable, Writes};
 ghost use Rattle.pi_insn.specs.Table.{row_of};
 
 use crate::fault::EncodeError;
@@ -225,10 +225,10 @@ fn units_by(row: Row, op: u8, body: &RawBody) -> Option<Packed>
 
 /// The units of an instruction. `Range` exactly where an operand does not fit the format of its opcode; want of memory
 /// is answered only where all fit.
-#[tactic(auto, unfolding(crate::specs::Writing::written))]
+#[tactic(auto, unfolding(crate::specs::Writing::encoding))]
 pub fn encode(alloc: Global, insn: &RawInsn) -> Result<Units, EncodeError>
     requires { IsInTable insn.now }
-    ensures { Writes (written insn.now) result }
+    ensures { Writes (encoding insn.now) result }
 {
     let Some(row) = row_of(insn.op) else {
         return Err(EncodeError::Range);

@@ -4,8 +4,8 @@ use Rattle.pi_insn.specs.declared.raw.RawInsn.{RawInsn}
 use Rattle.pi_insn.specs.declared.raw.RawBody.{RawBody}
 use Rattle.pi_insn.specs.declared.raw.RawBody.TheVariants.{ConstString, ConstClass, CheckCast, InstanceOf, NewInstance, NewArray, Filled, FillArray, Switch, Iget, Iput, Sget, Sput, Invoke}
 use Rattle.pi_insn.specs.declared.raw.InsnError.{InsnError}
-use Rattle.pi_insn.specs.Numbers.{signed, word}
-use Rattle.pi_insn.specs.Reading.{decoded}
+use Rattle.pi_insn.specs.Numbers.{signed_number, word}
+use Rattle.pi_insn.specs.Reading.{insn_in}
 use Rattle.pi_insn.specs.Payloads.{Data, PackedData, SparseData, ArrayData, payload}
 use Rattle.pi_format.specs.Bytes.{word_at}
 use Rattle.pi_format.specs.Tables.{count_at, string_ids, type_ids, field_ids, method_ids}
@@ -35,7 +35,7 @@ payload_units (ArrayData width size items) = 4 + length items
 
 -- what stands at the front of units: an instruction, or else a payload
 abbrev pub front_piece : ℕ → List ℕ → Option Piece
-front_piece at units = by_insn at (decoded units) (payload units)
+front_piece at units = by_insn at (insn_in units) (payload units)
   where
     by_payload : ℕ → Option Data → Option Piece
     by_payload at None = None
@@ -135,7 +135,7 @@ payload_of pieces at dist = found_at pieces (address (pos at +ℤ dist))
 
 -- the signed key of a case, by the units of all keys
 abbrev pub signed_key : List ℕ → ℕ → ℤ
-signed_key keys k = signed 2147483648 (word keys (2 * k))
+signed_key keys k = signed_number 2147483648 (word keys (2 * k))
 
 -- a key is above the one before it
 abbrev pub key_rises : List ℕ → ℕ → Bool

@@ -6,7 +6,7 @@ use Rattle.pi_model.specs.declared.describe.FieldDesc.{FieldDesc}
 use Rattle.pi_model.specs.declared.describe.MethodDesc.{MethodDesc}
 use Rattle.pi_model.specs.declared.describe.Init.{Init}
 use Rattle.pi_model.specs.declared.describe.Init.TheVariants.{Zero, Word, Long, Str, Cls}
-use Rattle.pi_insn.specs.Numbers.{extended}
+use Rattle.pi_insn.specs.Numbers.{signed_extension}
 use Rattle.pi_format.specs.Tables.{count_at, type_ids, class_defs, field_ids, method_ids}
 use Rattle.pi_format.specs.Rules.Entries.{list_at}
 use Rattle.pi_format.specs.Rules.Members.{member_entry}
@@ -27,7 +27,7 @@ long_init n = if n == 0 then Zero else Long n
 
 -- the number of a value extended by its sign from the bits that it has
 abbrev pub signed_value : ℕ → EncodedValue → ℕ
-signed_value range v = extended (2 ^ (8 * v.arg + 7)) range v.number
+signed_value range v = signed_extension (2 ^ (8 * v.arg + 7)) range v.number
 
 -- what a value sets its field to: bytes, shorts and ints are extended by their sign to 32 bits, longs to 64
 unfoldable pub init_of : Named → EncodedValue → Init

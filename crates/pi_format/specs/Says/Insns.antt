@@ -8,7 +8,7 @@ use Rattle.pi_insn.specs.declared.raw.RawBody.{RawBody}
 use Rattle.pi_insn.specs.declared.raw.RawBody.TheVariants.{Nop, Move, MoveResult, MoveException, ReturnVoid, Return, Const, ConstWide, ConstString, ConstClass, Monitor, CheckCast, InstanceOf, ArrayLength, NewInstance, NewArray, Filled, FillArray, Throw, Goto, Switch, CmpLong, If, IfZ, Aget, Aput, Iget, Iput, Sget, Sput, Invoke, Unary, Binary, BinaryLit}
 use Rattle.pi_insn.specs.declared.raw.RawRegs.{RawRegs}
 use Rattle.pi_insn.specs.declared.raw.RawRegs.TheVariants.{Few, Run}
-use Rattle.pi_insn.specs.Numbers.{signed, word}
+use Rattle.pi_insn.specs.Numbers.{signed_number, word}
 use Rattle.pi_insn.specs.Payloads.{Data, PackedData, SparseData, ArrayData}
 use Rattle.pi_format.specs.Rules.Lowest.{listed}
 use Rattle.pi_format.specs.Rules.Pieces.{Piece, payload_of}
@@ -30,7 +30,7 @@ registers (Run first n) = listed (λ r. r % 65536) first n
 
 -- the target of a case by the units of all targets
 abbrev pub case_target : ℕ → List ℕ → ℕ → ℕ
-case_target at targets k = target at (signed 2147483648 (word targets (2 * k)))
+case_target at targets k = target at (signed_number 2147483648 (word targets (2 * k)))
 
 -- the cases of a switch: keys count from the first one up, or each stands by itself
 abbrev pub cases_of : ℕ → Option Data → List Case
