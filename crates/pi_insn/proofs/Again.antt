@@ -1,12 +1,12 @@
 -- What is written is read again: for each shape of the units, by the row whose operands they are.
-use Rattle.std.proofs.Common.{◌≡◌, ℕ, ◌+◌, ◌*◌, ◌/◌, ◌%◌, ◌<◌, false, List, [], ◌∷◌, ◌++◌, length, Option, Some, sym, arith}
+use Rattle.std.proofs.Common.{◌≡◌, ℕ, ◌+◌, ◌*◌, ◌/◌, ◌%◌, ◌<◌, false, List, [], ◌∷◌, ◌++◌, length, Option, Some, arith}
 use Rattle.pi_insn.specs.declared.table.Row.{Row}
 use Rattle.pi_insn.specs.declared.raw.RawBody.{RawBody}
 use Rattle.pi_insn.specs.Chain.{◌>>=◌}
 use Rattle.pi_insn.specs.Numbers.{number_below}
 use Rattle.pi_insn.specs.Table.{units_of, refuses}
 use Rattle.pi_insn.specs.Reading.{body_of}
-use Rattle.pi_insn.specs.Writing.{as_units, with_byte, with_pair, with_unit, with_word, alone, byte_alone, pair_alone, unit_behind, byte_and_unit, pair_and_unit, three_bytes, two_units_behind, word_behind, byte_and_word}
+use Rattle.pi_insn.specs.Writing.{as_units, with_byte, with_pair}
 use Rattle.pi_insn.proofs.Steps.{bind_some, below_some, units_some, byte_some, pair_some}
 
 -- the units are those of a row's instruction: a first unit with the opcode and a high byte, and what reads as its operands
@@ -18,22 +18,12 @@ pub record Says (row : Row) (op : ℕ) (body : RawBody) (units rest : List ℕ) 
   pub whole : length tail + 1 ≡ units_of row
   pub body_is : body_of row high (tail ++ rest) ≡ body
 
--- the shapes of the units
-alone_some : (first : Option ℕ) (units : List ℕ) → alone first ≡ Some units → (u : ℕ) × ((first ≡ Some u) × (units ≡ u ∷ []))
-alone_some first units e =
-    let found = bind_some first (λ u. as_units (u ∷ [])) units e in
-    (found.0, (found.1.0, units_some (found.0 ∷ []) units found.1.1))
-
-unit_some : (first : Option ℕ) (b : ℕ) (units : List ℕ) → with_unit first b ≡ Some units → (u : ℕ) × ((first ≡ Some u) × (units ≡ u ∷ b ∷ []))
-unit_some first b units e =
-    let found = bind_some first (λ u. as_units (u ∷ b ∷ [])) units e in
-    (found.0, (found.1.0, units_some (found.0 ∷ b ∷ []) units found.1.1))
-
-word_some : (first : Option ℕ) (n : ℕ) (units : List ℕ) → with_word first n ≡ Some units
-    → (u : ℕ) × ((first ≡ Some u) × (units ≡ u ∷ n % 65536 ∷ n / 65536 ∷ []))
-word_some first n units e =
-    let found = bind_some first (λ u. as_units (u ∷ n % 65536 ∷ n / 65536 ∷ [])) units e in
-    (found.0, (found.1.0, units_some (found.0 ∷ n % 65536 ∷ n / 65536 ∷ []) units found.1.1))
+-- the units behind a first unit, where there is one
+pub behind_first : (first : Option ℕ) (f : ℕ → List ℕ) (units : List ℕ) → (first >>= (λ u. as_units (f u))) ≡ Some units
+    → (u : ℕ) × ((first ≡ Some u) × (units ≡ f u))
+behind_first first f units e =
+    let found = bind_some first (λ u. as_units (f u)) units e in
+    (found.0, (found.1.0, units_some (f found.0) units found.1.1))
 
 -- the two halves of a byte
 pub lower : (a b : ℕ) → a < 16 → (a + 16 * b) % 16 ≡ a
@@ -59,7 +49,8 @@ high_byte b c h = omega arith
 same_bytes : (u b x c y : ℕ) (units : List ℕ) → x ≡ b → y ≡ c → units ≡ u ∷ (x + 256 * y) ∷ [] → units ≡ u ∷ (b + 256 * c) ∷ []
 same_bytes u b x c y units same like e = cc
 
-two_bytes : (u b c : ℕ) (units : List ℕ) → (number_below 256 b >>= (λ b. number_below 256 c >>= (λ c. as_units (u ∷ (b + 256 * c) ∷ [])))) ≡ Some units
+pub two_bytes : (u b c : ℕ) (units : List ℕ)
+    → (number_below 256 b >>= (λ b. number_below 256 c >>= (λ c. as_units (u ∷ (b + 256 * c) ∷ [])))) ≡ Some units
     → (b < 256) × (units ≡ u ∷ (b + 256 * c) ∷ [])
 two_bytes u b c units e =
     let x = bind_some (number_below 256 b) (λ b. number_below 256 c >>= (λ c. as_units (u ∷ (b + 256 * c) ∷ []))) units e in
@@ -68,135 +59,44 @@ two_bytes u b c units e =
     let fy = below_some 256 c y.0 y.1.0 in
     (fx.0, same_bytes u b x.0 c y.0 units fx.1 fy.1 (units_some (u ∷ (x.0 + 256 * y.0) ∷ []) units y.1.1))
 
--- Of each shape: the row has that length, it takes the high byte, and what it reads from these units is the body whose
--- operands they are.
+-- By what stands behind the opcode: the row has that length, it takes the high byte, and what it reads from these units is
+-- the body.
 module _ (row : Row) (op : ℕ) (body : RawBody) (units rest : List ℕ) where
-  pub byte_alone_says : (operand : Option ℕ) → byte_alone op operand ≡ Some units → units_of row ≡ 1 → ((a : ℕ) → refuses row a ≡ false)
-      → ((a : ℕ) → operand ≡ Some a → body_of row a rest ≡ body) → Says row op body units rest
-  byte_alone_says operand e long free says =
-      let o = bind_some operand (λ a. alone (with_byte op a)) units e in
-      let u = alone_some (with_byte op o.0) units o.1.1 in
-      let f = byte_some op o.0 u.0 u.1.0 in
+  pub bare_says : (tail : List ℕ) → as_units (op ∷ tail) ≡ Some units → length tail + 1 ≡ units_of row → refuses row 0 ≡ false
+      → body_of row 0 (tail ++ rest) ≡ body → Says row op body units rest
+  bare_says tail e long passes is = record {
+    high = 0;
+    tail = tail;
+    are = head op (op + 256 * 0) units tail (units_some (op ∷ tail) units e) (omega arith);
+    passes = passes;
+    whole = long;
+    body_is = is;
+  }
+
+  pub byte_says : (a : ℕ) (tail : List ℕ) → (with_byte op a >>= (λ u. as_units (u ∷ tail))) ≡ Some units → length tail + 1 ≡ units_of row
+      → refuses row a ≡ false → body_of row a (tail ++ rest) ≡ body → Says row op body units rest
+  byte_says a tail e long passes is =
+      let u = behind_first (with_byte op a) (λ u. u ∷ tail) units e in
       record {
-        high = o.0;
-        tail = [];
-        are = head u.0 (op + 256 * o.0) units [] u.1.1 f.1;
-        passes = free o.0;
-        whole = sym long;
-        body_is = says o.0 o.1.0;
+        high = a;
+        tail = tail;
+        are = head u.0 (op + 256 * a) units tail u.1.1 (byte_some op a u.0 u.1.0).1;
+        passes = passes;
+        whole = long;
+        body_is = is;
       }
 
-  pub pair_alone_says : (operands : Option (ℕ × ℕ)) → pair_alone op operands ≡ Some units → units_of row ≡ 1 → ((a : ℕ) → refuses row a ≡ false)
-      → ((p : ℕ × ℕ) → p.0 < 16 → operands ≡ Some p → body_of row (p.0 + 16 * p.1) rest ≡ body) → Says row op body units rest
-  pair_alone_says operands e long free says =
-      let o = bind_some operands (λ p. alone (with_pair op p.0 p.1)) units e in
-      let u = alone_some (with_pair op o.0.0 o.0.1) units o.1.1 in
-      let f = pair_some op o.0.0 o.0.1 u.0 u.1.0 in
+  pub pair_says : (a b : ℕ) (tail : List ℕ)
+      → (with_pair op a b >>= (λ u. as_units (u ∷ tail))) ≡ Some units → length tail + 1 ≡ units_of row
+      → refuses row (a + 16 * b) ≡ false → (a < 16 → body_of row (a + 16 * b) (tail ++ rest) ≡ body) → Says row op body units rest
+  pair_says a b tail e long passes is =
+      let u = behind_first (with_pair op a b) (λ u. u ∷ tail) units e in
+      let f = pair_some op a b u.0 u.1.0 in
       record {
-        high = o.0.0 + 16 * o.0.1;
-        tail = [];
-        are = head u.0 (op + 256 * (o.0.0 + 16 * o.0.1)) units [] u.1.1 f.2;
-        passes = free (o.0.0 + 16 * o.0.1);
-        whole = sym long;
-        body_is = says o.0 f.0 o.1.0;
-      }
-
-  pub unit_behind_says : (operand : Option ℕ) → unit_behind op operand ≡ Some units → units_of row ≡ 2 → refuses row 0 ≡ false
-      → ((n : ℕ) → operand ≡ Some n → body_of row 0 (n ∷ rest) ≡ body) → Says row op body units rest
-  unit_behind_says operand e long free says =
-      let o = bind_some operand (λ n. with_unit (Some op) n) units e in
-      record {
-        high = 0;
-        tail = o.0 ∷ [];
-        are = head op (op + 256 * 0) units (o.0 ∷ []) (units_some (op ∷ o.0 ∷ []) units o.1.1) (omega arith);
-        passes = free;
-        whole = sym long;
-        body_is = says o.0 o.1.0;
-      }
-
-  pub byte_and_unit_says : (operands : Option (ℕ × ℕ)) → byte_and_unit op operands ≡ Some units → units_of row ≡ 2 → ((a : ℕ) → refuses row a ≡ false)
-      → ((p : ℕ × ℕ) → operands ≡ Some p → body_of row p.0 (p.1 ∷ rest) ≡ body) → Says row op body units rest
-  byte_and_unit_says operands e long free says =
-      let o = bind_some operands (λ p. with_unit (with_byte op p.0) p.1) units e in
-      let u = unit_some (with_byte op o.0.0) o.0.1 units o.1.1 in
-      let f = byte_some op o.0.0 u.0 u.1.0 in
-      record {
-        high = o.0.0;
-        tail = o.0.1 ∷ [];
-        are = head u.0 (op + 256 * o.0.0) units (o.0.1 ∷ []) u.1.1 f.1;
-        passes = free o.0.0;
-        whole = sym long;
-        body_is = says o.0 o.1.0;
-      }
-
-  pub pair_and_unit_says : (operands : Option (ℕ × ℕ × ℕ)) → pair_and_unit op operands ≡ Some units → units_of row ≡ 2 → ((a : ℕ) → refuses row a ≡ false)
-      → ((p : ℕ × ℕ × ℕ) → p.0 < 16 → operands ≡ Some p → body_of row (p.0 + 16 * p.1) (p.2 ∷ rest) ≡ body) → Says row op body units rest
-  pair_and_unit_says operands e long free says =
-      let o = bind_some operands (λ p. with_unit (with_pair op p.0 p.1) p.2) units e in
-      let u = unit_some (with_pair op o.0.0 o.0.1) o.0.2 units o.1.1 in
-      let f = pair_some op o.0.0 o.0.1 u.0 u.1.0 in
-      record {
-        high = o.0.0 + 16 * o.0.1;
-        tail = o.0.2 ∷ [];
-        are = head u.0 (op + 256 * (o.0.0 + 16 * o.0.1)) units (o.0.2 ∷ []) u.1.1 f.2;
-        passes = free (o.0.0 + 16 * o.0.1);
-        whole = sym long;
-        body_is = says o.0 f.0 o.1.0;
-      }
-
-  pub three_bytes_say : (operands : Option (ℕ × ℕ × ℕ)) → three_bytes op operands ≡ Some units → units_of row ≡ 2 → ((a : ℕ) → refuses row a ≡ false)
-      → ((p : ℕ × ℕ × ℕ) → p.1 < 256 → operands ≡ Some p → body_of row p.0 ((p.1 + 256 * p.2) ∷ rest) ≡ body) → Says row op body units rest
-  three_bytes_say operands e long free says =
-      let o = bind_some operands (λ p. with_byte op p.0 >>= (λ u. number_below 256 p.1 >>= (λ b. number_below 256 p.2 >>= (λ c. as_units (u ∷ (b + 256 * c) ∷ []))))) units e in
-      let u = bind_some (with_byte op o.0.0) (λ u. number_below 256 o.0.1 >>= (λ b. number_below 256 o.0.2 >>= (λ c. as_units (u ∷ (b + 256 * c) ∷ [])))) units o.1.1 in
-      let f = byte_some op o.0.0 u.0 u.1.0 in
-      let b = two_bytes u.0 o.0.1 o.0.2 units u.1.1 in
-      record {
-        high = o.0.0;
-        tail = (o.0.1 + 256 * o.0.2) ∷ [];
-        are = head u.0 (op + 256 * o.0.0) units ((o.0.1 + 256 * o.0.2) ∷ []) b.1 f.1;
-        passes = free o.0.0;
-        whole = sym long;
-        body_is = says o.0 b.0 o.1.0;
-      }
-
-  pub two_units_behind_say : (operands : Option (ℕ × ℕ)) → two_units_behind op operands ≡ Some units → units_of row ≡ 3 → refuses row 0 ≡ false
-      → ((p : ℕ × ℕ) → operands ≡ Some p → body_of row 0 (p.0 ∷ p.1 ∷ rest) ≡ body) → Says row op body units rest
-  two_units_behind_say operands e long free says =
-      let o = bind_some operands (λ p. as_units (op ∷ p.0 ∷ p.1 ∷ [])) units e in
-      record {
-        high = 0;
-        tail = o.0.0 ∷ o.0.1 ∷ [];
-        are = head op (op + 256 * 0) units (o.0.0 ∷ o.0.1 ∷ []) (units_some (op ∷ o.0.0 ∷ o.0.1 ∷ []) units o.1.1) (omega arith);
-        passes = free;
-        whole = sym long;
-        body_is = says o.0 o.1.0;
-      }
-
-  pub word_behind_says : (operand : Option ℕ) → word_behind op operand ≡ Some units → units_of row ≡ 3 → refuses row 0 ≡ false
-      → ((n : ℕ) → operand ≡ Some n → body_of row 0 (n % 65536 ∷ n / 65536 ∷ rest) ≡ body) → Says row op body units rest
-  word_behind_says operand e long free says =
-      let o = bind_some operand (λ n. with_word (Some op) n) units e in
-      record {
-        high = 0;
-        tail = o.0 % 65536 ∷ o.0 / 65536 ∷ [];
-        are = head op (op + 256 * 0) units (o.0 % 65536 ∷ o.0 / 65536 ∷ []) (units_some (op ∷ o.0 % 65536 ∷ o.0 / 65536 ∷ []) units o.1.1) (omega arith);
-        passes = free;
-        whole = sym long;
-        body_is = says o.0 o.1.0;
-      }
-
-  pub byte_and_word_says : (operands : Option (ℕ × ℕ)) → byte_and_word op operands ≡ Some units → units_of row ≡ 3 → ((a : ℕ) → refuses row a ≡ false)
-      → ((p : ℕ × ℕ) → operands ≡ Some p → body_of row p.0 (p.1 % 65536 ∷ p.1 / 65536 ∷ rest) ≡ body) → Says row op body units rest
-  byte_and_word_says operands e long free says =
-      let o = bind_some operands (λ p. with_word (with_byte op p.0) p.1) units e in
-      let u = word_some (with_byte op o.0.0) o.0.1 units o.1.1 in
-      let f = byte_some op o.0.0 u.0 u.1.0 in
-      record {
-        high = o.0.0;
-        tail = o.0.1 % 65536 ∷ o.0.1 / 65536 ∷ [];
-        are = head u.0 (op + 256 * o.0.0) units (o.0.1 % 65536 ∷ o.0.1 / 65536 ∷ []) u.1.1 f.1;
-        passes = free o.0.0;
-        whole = sym long;
-        body_is = says o.0 o.1.0;
+        high = a + 16 * b;
+        tail = tail;
+        are = head u.0 (op + 256 * (a + 16 * b)) units tail u.1.1 f.2;
+        passes = passes;
+        whole = long;
+        body_is = is f.0;
       }

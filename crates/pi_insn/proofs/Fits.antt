@@ -1,5 +1,5 @@
 -- What was read fits again: no row refuses to write what it reads.
-use Rattle.std.proofs.Common.{◌≡◌, ℕ, suc, ◌+◌, ◌*◌, ◌/◌, ◌%◌, ◌^◌, ◌<◌, ◌≤◌, ◌==◌, Bool, true, false, nat_lt, List, [], ◌∷◌, slice_index, Option, Some, None, Ok, IsSome, refl, sym, ap, subst, arith}
+use Rattle.std.proofs.Common.{◌≡◌, ℕ, suc, ◌+◌, ◌*◌, ◌/◌, ◌%◌, ◌^◌, ◌<◌, ◌≤◌, ◌==◌, Bool, true, false, List, [], ◌∷◌, slice_index, Option, Some, None, Ok, IsSome, refl, sym, ap, subst, arith}
 use Rattle.std.specs.Prelude.{if◌then◌else◌}
 use Rattle.std.proofs.lemmas.Bool.Decides.{nat_tests}
 use Rattle.pi_insn.specs.declared.table.Row.{Row}
@@ -31,7 +31,7 @@ use Rattle.pi_insn.specs.declared.raw.RawInsn.{RawInsn}
 use Rattle.pi_insn.specs.Table.{row_of, refuses}
 use Rattle.pi_insn.specs.Reading.{single_body, pair_body, triple_body, literal_body, high_body, named_body, named_pair_body, payload_body, listing_body, few, place, body_of, insn_in}
 use Rattle.pi_insn.specs.Writing.{as_units, with_byte, with_pair, single_of, pair_of, triple_of, literal_of, high_of, named_of, named_pair_of, payload_of, with_literal_of, listing_of, few_of, byte_alone, pair_alone, unit_behind, byte_and_unit, pair_and_unit, three_bytes, two_units_behind, word_behind, byte_and_word, units_by, units_where, encoding}
-use Rattle.pi_insn.proofs.Rounds.{read_there}
+use Rattle.pi_insn.proofs.Rounds.{at_most_five, read_there}
 
 -- numbers that fit
 below_ok : (limit n : ℕ) → n < limit → number_below limit n ≡ Some n
@@ -132,9 +132,6 @@ few_ok op i n c d e f g ho hi hn hc hd he hf hg =
     let v : c + 16 * d + 256 * e + 4096 * f < 65536 = omega arith in
     rw (below_ok 6 n (omega arith), below_ok 16 c hc, below_ok 16 d hd, below_ok 16 e he, below_ok 16 f hf, below_ok 16 g hg, three_ok (op + 256 * (g + 16 * n)) i (c + 16 * d + 256 * e + 4096 * f) u hi v) refl
 
-five_at_most : (high : ℕ) → nat_lt 5 (high / 16) ≡ false → high / 16 ≤ 5
-five_at_most high e = grind (arith, nat_tests)
-
 -- units in words
 word_less : (a b : ℕ) → a < 65536 → b < 65536 → a + 65536 * b < 4294967296
 word_less a b ha hb = omega arith
@@ -215,13 +212,16 @@ writable (F23x w) op high rest ho hh hr e =
     three_bytes_fit op ho _ _ _ _ (triple_is w high (slice_index rest 0 % 256) (slice_index rest 0 / 256)) hh (omega arith) (omega arith)
 writable (F22b k) op high rest ho hh hr e =
     let h = hr 0 in
-    three_bytes_fit op ho _ _ _ _ (short_literal_is k 128 high (slice_index rest 0 % 256) (slice_index rest 0 / 256) (omega arith) (omega arith)) hh (omega arith) (omega arith)
+    three_bytes_fit op ho _ _ _ _
+    (short_literal_is k 128 high (slice_index rest 0 % 256) (slice_index rest 0 / 256) (omega arith) (omega arith)) hh (omega arith) (omega arith)
 writable (F22t c) op high rest ho hh hr e =
     let h = hr 0 in
-    pair_and_unit_fits op ho _ (high % 16) (high / 16) _ (distance_is 32768 (slice_index rest 0) (λ n. (high % 16, high / 16, n)) (omega arith)) (omega arith) (omega arith) h
+    pair_and_unit_fits op ho _ (high % 16) (high / 16) _
+    (distance_is 32768 (slice_index rest 0) (λ n. (high % 16, high / 16, n)) (omega arith)) (omega arith) (omega arith) h
 writable (F22s k) op high rest ho hh hr e =
     let h = hr 0 in
-    pair_and_unit_fits op ho _ _ _ _ (short_literal_is k 32768 (high % 16) (high / 16) (slice_index rest 0) (omega arith) (omega arith)) (omega arith) (omega arith) h
+    pair_and_unit_fits op ho _ _ _ _ (short_literal_is k 32768 (high % 16) (high / 16) (slice_index rest 0) (omega arith) (omega arith))
+    (omega arith) (omega arith) h
 writable (F22c w) op high rest ho hh hr e =
     pair_and_unit_fits op ho _ _ _ _ (named_pair_is w (high % 16) (high / 16) (slice_index rest 0)) (omega arith) (omega arith) (hr 0)
 writable F30t op high rest ho hh hr e =
@@ -242,7 +242,7 @@ writable (F35c w) op high rest ho hh hr e =
     let h1 = hr 1 in
     rw (listing_is w (slice_index rest 0) (few high (slice_index rest 1))) (few_ok op (slice_index rest 0) (high / 16)
     (place n 0 (u % 16)) (place n 1 (u / 16 % 16)) (place n 2 (u / 256 % 16)) (place n 3 (u / 4096)) (place n 4 (high % 16))
-    ho (hr 0) (five_at_most high e)
+    ho (hr 0) (at_most_five high e)
     (place_less n 0 (u % 16) (omega arith)) (place_less n 1 (u / 16 % 16) (omega arith)) (place_less n 2 (u / 256 % 16) (omega arith))
     (place_less n 3 (u / 4096) (omega arith)) (place_less n 4 (high % 16) (omega arith)))
 writable (F3rc w) op high rest ho hh hr e =

@@ -120,7 +120,7 @@ behind n c d e f g (suc (suc (suc zero))) h = none_behind n 3 f h
 behind n c d e f g (suc (suc (suc (suc zero)))) h = none_behind n 4 g h
 behind n c d e f g (suc (suc (suc (suc (suc i))))) h = refl
 
-at_most_five : (high : ℕ) → nat_lt 5 (high / 16) ≡ false → high / 16 ≤ 5
+pub at_most_five : (high : ℕ) → nat_lt 5 (high / 16) ≡ false → high / 16 ≤ 5
 at_most_five high e = grind (arith, nat_tests)
 
 are_few : (high u : ℕ) → nat_lt 5 (high / 16) ≡ false → AreFew (few high u)

@@ -14,11 +14,27 @@ use Rattle.pi_insn.specs.declared.raw.RawRegs.{RawRegs}
 use Rattle.pi_insn.specs.declared.raw.RawRegs.TheVariants.{Few, Run}
 use Rattle.pi_insn.specs.Chain.{◌>>=◌}
 use Rattle.pi_insn.specs.Numbers.{number_below}
+use Rattle.pi_insn.specs.Table.{units_of, refuses}
 use Rattle.pi_insn.specs.Reading.{listing_body, few, place, body_of}
-use Rattle.pi_insn.specs.Writing.{as_units, with_byte, listing_of, few_of, few_units, run_units, units_35c, units_3rc, units_51l, units_by, without_operands, zero_regs, AreFew, NamesFew}
+use Rattle.pi_insn.specs.Writing.{as_units, with_byte, with_pair, with_unit, with_word, alone, three_bytes, single_of, pair_of, triple_of, literal_of, high_of, named_of, named_pair_of, payload_of, goto_of, test_of, compare_of, with_literal_of, listing_of, few_of, few_units, run_units, units_35c, units_3rc, units_51l, units_by, without_operands, zero_regs, AreFew, NamesFew}
 use Rattle.pi_insn.proofs.Steps.{bind_some, below_some, units_some, byte_some}
 use Rattle.pi_insn.proofs.Bodies.{from_plain, from_single, from_pair, from_triple, from_named, from_named_pair, from_listing, from_literal, from_high, from_with_literal, from_goto, from_test, from_compare, from_payload}
-use Rattle.pi_insn.proofs.Again.{Says, lower, upper, low_byte, high_byte, word_again, head, byte_alone_says, pair_alone_says, unit_behind_says, byte_and_unit_says, pair_and_unit_says, three_bytes_say, two_units_behind_say, word_behind_says, byte_and_word_says}
+use Rattle.pi_insn.proofs.Again.{Says, behind_first, lower, upper, low_byte, high_byte, two_bytes, word_again, head, bare_says, byte_says, pair_says}
+
+-- three bytes, of which two share a unit
+three_bytes_say : (row : Row) (op : ℕ) (body : RawBody) (units rest : List ℕ) (a b c : ℕ) → three_bytes op (Some (a, b, c)) ≡ Some units
+    → 2 ≡ units_of row → refuses row a ≡ false → (b < 256 → body_of row a ((b + 256 * c) ∷ rest) ≡ body) → Says row op body units rest
+three_bytes_say row op body units rest a b c e long passes is =
+    let u = bind_some (with_byte op a) (λ u. number_below 256 b >>= (λ b. number_below 256 c >>= (λ c. as_units (u ∷ (b + 256 * c) ∷ [])))) units e in
+    let f = two_bytes u.0 b c units u.1.1 in
+    record {
+      high = a;
+      tail = (b + 256 * c) ∷ [];
+      are = head u.0 (op + 256 * a) units ((b + 256 * c) ∷ []) f.1 (byte_some op a u.0 u.1.0).1;
+      passes = passes;
+      whole = long;
+      body_is = is f.0;
+    }
 
 -- a 64-bit number and its units
 long_again : (n : ℕ) → n % 65536 + 65536 * (n / 65536 % 65536) + 4294967296 * (n / 4294967296 % 65536 + 65536 * (n / 281474976710656)) ≡ n
@@ -27,26 +43,18 @@ long_again n = omega arith
 again_51l : (op : ℕ) (body : RawBody) (units rest : List ℕ) → units_51l op body ≡ Some units
     → without_operands body ≡ ConstWide 0 0 → Says F51l op body units rest
 again_51l op (ConstWide a v) units rest e h =
-    let tail : List ℕ = v % 65536 ∷ v / 65536 % 65536 ∷ v / 4294967296 % 65536 ∷ v / 281474976710656 ∷ [] in
-    let u = bind_some (with_byte op a) (λ u. as_units (u ∷ v % 65536 ∷ v / 65536 % 65536 ∷ v / 4294967296 % 65536 ∷ v / 281474976710656 ∷ [])) units e in
-    let f = byte_some op a u.0 u.1.0 in
-    record {
-      high = a;
-      tail = v % 65536 ∷ v / 65536 % 65536 ∷ v / 4294967296 % 65536 ∷ v / 281474976710656 ∷ [];
-      are = head u.0 (op + 256 * a) units tail (units_some (u.0 ∷ tail) units u.1.1) f.1;
-      passes = refl;
-      whole = refl;
-      body_is = ap (ConstWide a) (long_again v);
-    }
+    byte_says F51l op (ConstWide a v) units rest a
+    (v % 65536 ∷ v / 65536 % 65536 ∷ v / 4294967296 % 65536 ∷ v / 281474976710656 ∷ []) e refl refl
+    (ap (ConstWide a) (long_again v))
 again_51l op body units rest e h = cc
 
 -- registers in a row
 again_run : (op i : ℕ) (regs : RawRegs) (units : List ℕ) → run_units op i regs ≡ Some units → zero_regs regs ≡ Run 0 0
     → (first : ℕ) × (n : ℕ) × ((regs ≡ Run first n) × (units ≡ (op + 256 * n) ∷ i ∷ first ∷ []))
 again_run op i (Run first n) units e h =
-    let u = bind_some (with_byte op n) (λ u. as_units (u ∷ i ∷ first ∷ [])) units e in
+    let u = behind_first (with_byte op n) (λ u. u ∷ i ∷ first ∷ []) units e in
     let f = byte_some op n u.0 u.1.0 in
-    (first, n, (refl, head u.0 (op + 256 * n) units (i ∷ first ∷ []) (units_some (u.0 ∷ i ∷ first ∷ []) units u.1.1) f.1))
+    (first, n, (refl, head u.0 (op + 256 * n) units (i ∷ first ∷ []) u.1.1 f.1))
 again_run op i (Few n regs) units e h = cc
 
 again_3rc : (w : Listing) (op : ℕ) (body : RawBody) (units rest : List ℕ) → units_3rc op body ≡ Some units
@@ -160,53 +168,79 @@ again_35c w op body units rest e h fits =
 -- the instruction of each row
 pub by_row : (row : Row) (op : ℕ) (body : RawBody) (units rest : List ℕ) → units_by row op body ≡ Some units
     → without_operands body ≡ without_operands (body_of row 0 []) → NamesFew body → Says row op body units rest
-by_row (F10x w) op body units rest e h few = record {
-  high = 0;
-  tail = [];
-  are = head op (op + 256 * 0) units [] (units_some (op ∷ []) units e) (omega arith);
-  passes = refl;
-  whole = refl;
-  body_is = from_plain w body h;
-}
+by_row (F10x w) op body units rest e h few =
+    bare_says (F10x w) op body units rest [] e refl refl (from_plain w body h)
 by_row (F12x w) op body units rest e h few =
-    pair_alone_says (F12x w) op body units rest _ e refl (λ a. refl) (λ p l is. rw (lower p.0 p.1 l, upper p.0 p.1 l) (from_pair w body p h is))
+    let o = bind_some (pair_of body) (λ p. alone (with_pair op p.0 p.1)) units e in
+    pair_says (F12x w) op body units rest o.0.0 o.0.1 [] o.1.1 refl refl
+    (λ l. rw (lower o.0.0 o.0.1 l, upper o.0.0 o.0.1 l) (from_pair w body o.0 h o.1.0))
 by_row F11n op body units rest e h few =
-    pair_alone_says F11n op body units rest _ e refl (λ a. refl) (λ p l is. rw (lower p.0 p.1 l, upper p.0 p.1 l) (from_literal 8 literal.Int body p (omega arith) h is))
-by_row (F11x w) op body units rest e h few = byte_alone_says (F11x w) op body units rest _ e refl (λ a. refl) (λ a is. from_single w body a h is)
-by_row F10t op body units rest e h few = byte_alone_says F10t op body units rest _ e refl (λ a. refl) (λ n is. from_goto 128 body n is)
-by_row F20t op body units rest e h few = unit_behind_says F20t op body units rest _ e refl refl (λ n is. from_goto 32768 body n is)
+    let o = bind_some (literal_of 8 body) (λ p. alone (with_pair op p.0 p.1)) units e in
+    pair_says F11n op body units rest o.0.0 o.0.1 [] o.1.1 refl refl
+    (λ l. rw (lower o.0.0 o.0.1 l, upper o.0.0 o.0.1 l) (from_literal 8 literal.Int body o.0 (omega arith) h o.1.0))
+by_row (F11x w) op body units rest e h few =
+    let o = bind_some (single_of body) (λ a. alone (with_byte op a)) units e in
+    byte_says (F11x w) op body units rest o.0 [] o.1.1 refl refl (from_single w body o.0 h o.1.0)
+by_row F10t op body units rest e h few =
+    let o = bind_some (goto_of 128 body) (λ a. alone (with_byte op a)) units e in
+    byte_says F10t op body units rest o.0 [] o.1.1 refl refl (from_goto 128 body o.0 o.1.0)
+by_row F20t op body units rest e h few =
+    let o = bind_some (goto_of 32768 body) (λ n. with_unit (Some op) n) units e in
+    bare_says F20t op body units rest (o.0 ∷ []) o.1.1 refl refl (from_goto 32768 body o.0 o.1.0)
 by_row (F22x k) op body units rest e h few =
-    byte_and_unit_says (F22x k) op body units rest _ e refl (λ a. refl) (λ p is. from_pair (pair.Move k) body p h is)
+    let o = bind_some (pair_of body) (λ p. with_unit (with_byte op p.0) p.1) units e in
+    byte_says (F22x k) op body units rest o.0.0 (o.0.1 ∷ []) o.1.1 refl refl (from_pair (pair.Move k) body o.0 h o.1.0)
 by_row (F21t c) op body units rest e h few =
-    byte_and_unit_says (F21t c) op body units rest _ e refl (λ a. refl) (λ p is. from_test 32768 c body p h is)
+    let o = bind_some (test_of 32768 body) (λ p. with_unit (with_byte op p.0) p.1) units e in
+    byte_says (F21t c) op body units rest o.0.0 (o.0.1 ∷ []) o.1.1 refl refl (from_test 32768 c body o.0 h o.1.0)
 by_row (F21s w) op body units rest e h few =
-    byte_and_unit_says (F21s w) op body units rest _ e refl (λ a. refl) (λ p is. from_literal 32768 w body p (omega arith) h is)
+    let o = bind_some (literal_of 32768 body) (λ p. with_unit (with_byte op p.0) p.1) units e in
+    byte_says (F21s w) op body units rest o.0.0 (o.0.1 ∷ []) o.1.1 refl refl (from_literal 32768 w body o.0 (omega arith) h o.1.0)
 by_row (F21h w) op body units rest e h few =
-    byte_and_unit_says (F21h w) op body units rest _ e refl (λ a. refl) (λ p is. from_high w body p h is)
+    let o = bind_some (high_of body) (λ p. with_unit (with_byte op p.0) p.1) units e in
+    byte_says (F21h w) op body units rest o.0.0 (o.0.1 ∷ []) o.1.1 refl refl (from_high w body o.0 h o.1.0)
 by_row (F21c w) op body units rest e h few =
-    byte_and_unit_says (F21c w) op body units rest _ e refl (λ a. refl) (λ p is. from_named w body p h is)
+    let o = bind_some (named_of body) (λ p. with_unit (with_byte op p.0) p.1) units e in
+    byte_says (F21c w) op body units rest o.0.0 (o.0.1 ∷ []) o.1.1 refl refl (from_named w body o.0 h o.1.0)
 by_row (F23x w) op body units rest e h few =
-    three_bytes_say (F23x w) op body units rest _ e refl (λ a. refl) (λ p l is. rw (low_byte p.1 p.2 l, high_byte p.1 p.2 l) (from_triple w body p h is))
+    let o = bind_some (triple_of body) (λ p. three_bytes op (Some p)) units e in
+    three_bytes_say (F23x w) op body units rest o.0.0 o.0.1 o.0.2 o.1.1 refl refl
+    (λ l. rw (low_byte o.0.1 o.0.2 l, high_byte o.0.1 o.0.2 l) (from_triple w body o.0 h o.1.0))
 by_row (F22b k) op body units rest e h few =
-    three_bytes_say (F22b k) op body units rest _ e refl (λ a. refl)
-    (λ p l is. rw (low_byte p.1 p.2 l, high_byte p.1 p.2 l) (from_with_literal 128 k body p (omega arith) h is))
+    let o = bind_some (with_literal_of 128 body) (λ p. three_bytes op (Some p)) units e in
+    three_bytes_say (F22b k) op body units rest o.0.0 o.0.1 o.0.2 o.1.1 refl refl
+    (λ l. rw (low_byte o.0.1 o.0.2 l, high_byte o.0.1 o.0.2 l) (from_with_literal 128 k body o.0 (omega arith) h o.1.0))
 by_row (F22t c) op body units rest e h few =
-    pair_and_unit_says (F22t c) op body units rest _ e refl (λ a. refl) (λ p l is. rw (lower p.0 p.1 l, upper p.0 p.1 l) (from_compare 32768 c body p h is))
+    let o = bind_some (compare_of 32768 body) (λ p. with_unit (with_pair op p.0 p.1) p.2) units e in
+    pair_says (F22t c) op body units rest o.0.0 o.0.1 (o.0.2 ∷ []) o.1.1 refl refl
+    (λ l. rw (lower o.0.0 o.0.1 l, upper o.0.0 o.0.1 l) (from_compare 32768 c body o.0 h o.1.0))
 by_row (F22s k) op body units rest e h few =
-    pair_and_unit_says (F22s k) op body units rest _ e refl (λ a. refl)
-    (λ p l is. rw (lower p.0 p.1 l, upper p.0 p.1 l) (from_with_literal 32768 k body p (omega arith) h is))
+    let o = bind_some (with_literal_of 32768 body) (λ p. with_unit (with_pair op p.0 p.1) p.2) units e in
+    pair_says (F22s k) op body units rest o.0.0 o.0.1 (o.0.2 ∷ []) o.1.1 refl refl
+    (λ l. rw (lower o.0.0 o.0.1 l, upper o.0.0 o.0.1 l) (from_with_literal 32768 k body o.0 (omega arith) h o.1.0))
 by_row (F22c w) op body units rest e h few =
-    pair_and_unit_says (F22c w) op body units rest _ e refl (λ a. refl) (λ p l is. rw (lower p.0 p.1 l, upper p.0 p.1 l) (from_named_pair w body p h is))
+    let o = bind_some (named_pair_of body) (λ p. with_unit (with_pair op p.0 p.1) p.2) units e in
+    pair_says (F22c w) op body units rest o.0.0 o.0.1 (o.0.2 ∷ []) o.1.1 refl refl
+    (λ l. rw (lower o.0.0 o.0.1 l, upper o.0.0 o.0.1 l) (from_named_pair w body o.0 h o.1.0))
 by_row F30t op body units rest e h few =
-    word_behind_says F30t op body units rest _ e refl refl (λ n is. rw (word_again n) (from_goto 2147483648 body n is))
+    let o = bind_some (goto_of 2147483648 body) (λ n. with_word (Some op) n) units e in
+    bare_says F30t op body units rest (o.0 % 65536 ∷ o.0 / 65536 ∷ []) o.1.1 refl refl
+    (rw (word_again o.0) (from_goto 2147483648 body o.0 o.1.0))
 by_row (F32x k) op body units rest e h few =
-    two_units_behind_say (F32x k) op body units rest _ e refl refl (λ p is. from_pair (pair.Move k) body p h is)
+    let o = bind_some (pair_of body) (λ p. as_units (op ∷ p.0 ∷ p.1 ∷ [])) units e in
+    bare_says (F32x k) op body units rest (o.0.0 ∷ o.0.1 ∷ []) o.1.1 refl refl (from_pair (pair.Move k) body o.0 h o.1.0)
 by_row (F31i w) op body units rest e h few =
-    byte_and_word_says (F31i w) op body units rest _ e refl (λ a. refl) (λ p is. rw (word_again p.1) (from_literal 2147483648 w body p (omega arith) h is))
+    let o = bind_some (literal_of 2147483648 body) (λ p. with_word (with_byte op p.0) p.1) units e in
+    byte_says (F31i w) op body units rest o.0.0 (o.0.1 % 65536 ∷ o.0.1 / 65536 ∷ []) o.1.1 refl refl
+    (rw (word_again o.0.1) (from_literal 2147483648 w body o.0 (omega arith) h o.1.0))
 by_row (F31t w) op body units rest e h few =
-    byte_and_word_says (F31t w) op body units rest _ e refl (λ a. refl) (λ p is. rw (word_again p.1) (from_payload w body p h is))
+    let o = bind_some (payload_of 2147483648 body) (λ p. with_word (with_byte op p.0) p.1) units e in
+    byte_says (F31t w) op body units rest o.0.0 (o.0.1 % 65536 ∷ o.0.1 / 65536 ∷ []) o.1.1 refl refl
+    (rw (word_again o.0.1) (from_payload w body o.0 h o.1.0))
 by_row F31c op body units rest e h few =
-    byte_and_word_says F31c op body units rest _ e refl (λ a. refl) (λ p is. rw (word_again p.1) (from_named named.ConstString body p h is))
+    let o = bind_some (named_of body) (λ p. with_word (with_byte op p.0) p.1) units e in
+    byte_says F31c op body units rest o.0.0 (o.0.1 % 65536 ∷ o.0.1 / 65536 ∷ []) o.1.1 refl refl
+    (rw (word_again o.0.1) (from_named named.ConstString body o.0 h o.1.0))
 by_row (F35c w) op body units rest e h few = again_35c w op body units rest e h few
 by_row (F3rc w) op body units rest e h few = again_3rc w op body units rest e h
 by_row F51l op body units rest e h few = again_51l op body units rest e h

@@ -120,7 +120,8 @@ listing_of _ = None
 -- the units of at most five registers: their number and the fifth stand behind the opcode, the first four in a unit
 abbrev pub few_of : ℕ → ℕ → ℕ → List ℕ → Option (List ℕ)
 few_of op i n (c ∷ d ∷ e ∷ f ∷ g ∷ []) =
-    number_below 6 n >>= (λ n. number_below 16 c >>= (λ c. number_below 16 d >>= (λ d. number_below 16 e >>= (λ e. number_below 16 f >>= (λ f. number_below 16 g >>= (λ g.
+    number_below 6 n >>= (λ n. number_below 16 c >>= (λ c. number_below 16 d >>= (λ d. number_below 16 e >>= (λ e.
+    number_below 16 f >>= (λ f. number_below 16 g >>= (λ g.
     as_units ((op + 256 * (g + 16 * n)) ∷ i ∷ (c + 16 * d + 256 * e + 4096 * f) ∷ [])))))))
 few_of op i n _ = None
 
@@ -155,7 +156,8 @@ abbrev pub pair_and_unit : ℕ → Option (ℕ × ℕ × ℕ) → Option (List �
 pair_and_unit op operands = operands >>= (λ p. with_unit (with_pair op p.0 p.1) p.2)
 
 abbrev pub three_bytes : ℕ → Option (ℕ × ℕ × ℕ) → Option (List ℕ)
-three_bytes op operands = operands >>= (λ p. with_byte op p.0 >>= (λ u. number_below 256 p.1 >>= (λ b. number_below 256 p.2 >>= (λ c. as_units (u ∷ (b + 256 * c) ∷ [])))))
+three_bytes op operands = operands >>= (λ p. with_byte op p.0 >>= (λ u.
+    number_below 256 p.1 >>= (λ b. number_below 256 p.2 >>= (λ c. as_units (u ∷ (b + 256 * c) ∷ [])))))
 
 abbrev pub two_units_behind : ℕ → Option (ℕ × ℕ) → Option (List ℕ)
 two_units_behind op operands = operands >>= (λ p. as_units (op ∷ p.0 ∷ p.1 ∷ []))
