@@ -33,7 +33,8 @@ class Acts:
 
     def tell(self, title):
         """Tells the answers since the last call."""
-        self.out.row('tell', self.subject + ':', title)
+        self.out.under(self.subject + ': ' + title)
+        self.out.row('tell')
         self.out.want(': '.join([self.subject, title]) + ':' + ''.join(' ' + a for a in self.said))
         self.said = []
 

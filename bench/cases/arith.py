@@ -87,8 +87,10 @@ ORDERS = [
 
 def tell(out, shows, verb, operands, result):
     out.note(shows)
-    out.row(verb, *operands)
-    out.want('%s %s: %s' % (verb, ' '.join(str(x) for x in operands), 'none' if result is None else result))
+    row = ' '.join([verb] + [str(x) for x in operands])
+    out.under(row)
+    out.row(row)
+    out.want('%s: %s' % (row, 'none' if result is None else result))
 
 
 def rows(out):

@@ -206,7 +206,8 @@ def answer(text, place):
 
 def case(out, title, text, place):
     out.row('text', spelled(text))
-    out.row('parse', title)
+    out.under(title)
+    out.row('parse')
     out.want(title + ':' + answer(text, place))
 
 
@@ -215,7 +216,8 @@ def fronts(out):
     for first, behind, place in FRONTS:
         for length in range(first, behind):
             title = 'front of %d bytes' % length
-            out.row('front', length, title)
+            out.under(title)
+            out.row('front', length)
             out.want(title + ':' + answer(PROGRAM[:length], place))
 
 
@@ -243,12 +245,14 @@ def large(out):
         out.row('text', spelled(head))
         out.row('repeat', count, spelled(piece))
         out.row('repeat', 1, spelled(tail))
-        out.row('digest', title)
+        out.under(title)
+        out.row('count')
         tokens = tokens_of(text)
         digest = hashlib.sha1(told_tokens(tokens).encode()).hexdigest()
         out.want('%s: %d lines, %s' % (title, len({line for line, _, _ in tokens}), digest))
         out.row('repeat', 1, 'end')
-        out.row('parse', title + ' and a wrong end')
+        out.under(title + ' and a wrong end')
+        out.row('parse')
         out.want('%s and a wrong end: %d:%d: Syntax' % (title, *place))
 
 
@@ -260,10 +264,12 @@ def rows(out):
     out.note('tokens stand as written')
     text, tokens = TOKENS
     out.row('text', spelled(text))
-    out.row('parse', 'tokens as written')
+    out.under('tokens as written')
+    out.row('parse')
     out.want('tokens as written:' + told_tokens(tokens))
     case(out, 'a fault with its place', 'class LA;\nsuper [I x', (2, 10))
-    out.row('memory', 'a text without memory')
+    out.under('a text without memory')
+    out.row('memory')
     out.want('a text without memory: out of memory')
     out.note('each front of a program')
     fronts(out)

@@ -54,7 +54,8 @@ class Calls:
         """A call, with the contents that the store has behind it, each by its name."""
         assert title not in self.titles, title
         self.titles.add(title)
-        self.out.row('run', title)
+        self.out.under(title)
+        self.out.row('run')
         self.want(title, answer, *contents)
 
     def want(self, title, answer, *contents):

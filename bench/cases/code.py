@@ -201,7 +201,8 @@ def begin(out, content):
 
 
 def tell(out, title, words, lines):
-    out.row('item', PLACE, words, title)
+    out.under(title)
+    out.row('item', PLACE, words)
     for line in lines:
         out.want('%s: %s' % (title, line))
 
@@ -221,7 +222,8 @@ def large(out):
     out.row('put', behind - 2, half(0x0E).hex())
     out.row('put', behind, head[16 + 2 * count:].hex())
     data = HEADER + head[:14 + 2 * count] + half(0x0E) + head[16 + 2 * count:]
-    out.row('digest', PLACE, 0, 'a long code with many ranges')
+    out.under('a long code with many ranges', '-digest')
+    out.row('item', PLACE, 0)
     out.want('a long code with many ranges: ' + digest(told(data, True, [(k, 1) for k in range(count)])))
 
 
@@ -231,13 +233,15 @@ def rows(out):
         begin(out, made.altered(content, [(place, [byte]) for place, byte in edits]))
         data = HEADER + made.altered(content, [(place, [byte]) for place, byte in edits])
         tell(out, title, 1, told(data, holds, [(k, 1) for k in range(at(data, PLACE + 12))]))
-    out.row('item', PLACE + 2, 1, 'a code item at no multiple of four')
+    out.under('a code item at no multiple of four')
+    out.row('item', PLACE + 2, 1)
     out.want('a code item at no multiple of four: holds false')
     begin(out, ONE[:22])
     tell(out, 'a code item whose units are cut', 1, ['holds false'])
     begin(out, TWO)
     for title, place, line in FOUND:
-        out.row('list', PLACE, place, title)
+        out.under(title)
+        out.row('list', PLACE, place)
         out.want('%s: %s' % (title, line))
     out.note('units')
     for title, units, *answers in CODES:
@@ -245,14 +249,17 @@ def rows(out):
         tell(out, title, 0, told(HEADER + item(1, 0, 0, units), True, *answers))
     begin(out, SWITCH)
     for title, unit, distance, line in PAYLOADS:
-        out.row('payload', PLACE, unit, distance, title)
+        out.under(title)
+        out.row('payload', PLACE, unit, distance)
         out.want('%s: %s' % (title, line))
     for title, unit, line in PIECES:
-        out.row('piece', PLACE, unit, title)
+        out.under(title)
+        out.row('piece', PLACE, unit)
         out.want('%s: %s' % (title, line))
     large(out)
     out.note('what codes say')
     made.alter(out, 'five.dex', [])
     for title, place, line in SAID:
-        out.row('says', place, title)
+        out.under(title)
+        out.row('says', place)
         out.want('%s: %s' % (title, line))

@@ -177,14 +177,19 @@ WRITES = [
 ]
 
 
+def in_hex(units):
+    return ''.join('%04x' % u for u in units)
+
+
 def digits(units):
     return ' '.join('%04x' % u for u in units)
 
 
 def case(out, title, units):
-    out.row('case', title)
+    out.row('case')
+    out.under(title, '-short')
     if units:
-        out.row('units', digits(units))
+        out.row('units', in_hex(units))
 
 
 def ask(out, title, row, answer):
@@ -273,7 +278,7 @@ def large_payloads(out):
             ('many items of four bytes', [0x0300, 4, most, 0], [[2, 1]], 'Array { width: 4, size: 65535, items: %s }' % targets)]:
         case(out, shows, head)
         for part in parts:
-            out.row('times', most, digits(part))
+            out.row('times', most, in_hex(part))
         ask(out, shows, 'payload 0', 'Some(%s)' % says)
         out.row('cut', len(head) + 2 * most * len(parts) - 1)
         ask(out, shows, 'payload 0', 'None')
@@ -291,8 +296,9 @@ def walks(out):
     times = 500
     units = [u for i in INSTRUCTIONS for u in units_of(i)]
     title = 'many instructions'
-    out.row('case', title)
-    out.row('times', times, digits(units))
+    out.row('case')
+    out.under(title, '-short')
+    out.row('times', times, in_hex(units))
 
     def walked(count, length):
         written = b''.join(u.to_bytes(2, 'little') for u in (units * times)[:length])
@@ -317,6 +323,7 @@ def rows(out):
     payloads(out)
     large_payloads(out)
     for shows, name, operands, answer in WRITES:
-        out.row('case', shows)
+        out.row('case')
+        out.under(shows, '-short')
         ask(out, shows, 'write %s %s' % (name, ' '.join(str(o) for o in operands)), answer)
     walks(out)

@@ -211,7 +211,8 @@ def job(out, title, text, wanted):
 
 
 def told_job(out, title, wanted):
-    out.row('job', title)
+    out.under(title)
+    out.row('job')
     out.want('%s: %s' % (title, said(wanted) if isinstance(wanted, Job) else line(wanted)))
 
 
@@ -221,7 +222,8 @@ def selection(out, title, file, text, wanted):
 
 
 def told_selection(out, title, file, wanted):
-    out.row('select', file, title)
+    out.under(title)
+    out.row('select', file)
     classes = '[%s]' % ', '.join('ClassNo(%d)' % c for c in wanted) if isinstance(wanted, list) else line(wanted)
     out.want('%s: %s' % (title, classes))
 
@@ -305,7 +307,8 @@ def rows(out):
     out.row('case')
     for title, text, wanted in JOBS:
         job(out, title, text, wanted)
-    out.row('memory', 'a job without memory')
+    out.under('a job without memory')
+    out.row('memory')
     out.want('a job without memory: out of memory')
     out.note('names that may stand beside each other')
     for title, text, wanted in NAMES:

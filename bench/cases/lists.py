@@ -105,7 +105,8 @@ CASES = [
 
 def rows(out):
     for title, steps in CASES:
-        out.row('case', title)
+        out.row('case')
+        out.under(title, '-short')
         for row, answer in steps:
             out.row(row)
             if answer is not None:

@@ -160,7 +160,8 @@ def many(out):
 
 
 def tell(out, title, files, steps):
-    out.row('case', title)
+    out.row('case')
+    out.under(title, '-short')
     for n, file in enumerate(files):
         out.row('file', n, file + '.dex')
     for row, answer in steps:

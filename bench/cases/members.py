@@ -88,7 +88,8 @@ def members(data):
 
 
 def tell(out, title, lines):
-    out.row('members', title)
+    out.under(title)
+    out.row('members')
     for line in lines:
         out.want('%s: %s' % (title, line))
 
@@ -103,7 +104,8 @@ def rows(out):
     alter(out, 'every.dex', [])
     tell(out, 'members of every kind', members(made.every_dex()))
     alter(out, 'many.dex', [])
-    out.row('digest', 'the members of many')
+    out.under('the members of many', '-digest')
+    out.row('members')
     out.want('the members of many: ' + digest(members(made.many_file()[0].write())))
     for title, edits, lines in BROKEN:
         alter(out, 'value.dex', edits, 'sign', 'sum')
@@ -112,5 +114,6 @@ def rows(out):
     tell(out, 'tables of which a rule is broken', ['rule 17 at 252'])
     out.note('flags')
     for title, number in NUMBERS + [('the flag ' + name, bit) for name, bit in FLAGS]:
-        out.row('flags', number, title)
+        out.under(title)
+        out.row('flags', number)
         out.want(' '.join([title + ': flags'] + [name for name, bit in FLAGS if number & bit]))

@@ -105,7 +105,8 @@ MANY = 100000
 
 
 def case(out, title, content):
-    out.row('case', title)
+    out.row('case')
+    out.under(title, '-short')
     if content:
         out.row('bytes', content)
 
@@ -129,8 +130,8 @@ def shortened(text):
     return text if len(text) <= 600 else '%d bytes %s' % (len(text), hashlib.sha1(text.encode()).hexdigest())
 
 
-def low_first(units):
-    return ''.join('%02x%02x' % (u & 255, u >> 8) for u in units)
+def in_hex(units):
+    return ''.join('%04x' % u for u in units)
 
 
 def many(out):
@@ -144,7 +145,7 @@ def many(out):
     out.row('text', 3 * MANY + 1)
     out.want('a text of many units: ' + bad(6 * MANY))
     case(out, 'many units are written', '')
-    out.row('times', MANY, low_first([0x61, 0xE9, 0x20AC]))
+    out.row('times', MANY, in_hex([0x61, 0xE9, 0x20AC]))
     out.row('spell')
     out.want('many units are written: ' + shortened('61c3a9e282ac' * MANY + '00'))
     case(out, 'a cursor over many bytes', '')
@@ -172,7 +173,7 @@ def rows(out):
         out.row('text', count)
         out.want('%s: %s' % (shows, bad(place)))
     for shows, units, content in WRITTEN:
-        case(out, shows, low_first(units))
+        case(out, shows, in_hex(units))
         out.row('spell')
         out.want('%s: %s' % (shows, content))
     many(out)

@@ -146,8 +146,10 @@ STATUSES = [
 
 
 def follow(out, title, acts):
-    out.row('case', title)
+    out.note(title)
     for row, answer in acts:
+        if answer is not None:
+            out.under(title + ': ' + row)
         out.row(row)
         if answer is not None:
             out.want('%s: %s: %s' % (title, row, answer))
@@ -156,11 +158,13 @@ def follow(out, title, acts):
 def standard_output(out):
     """What goes to standard output stands among the lines that are told."""
     title, text = 'standard output', 'to standard output\n'
-    out.row('case', title)
+    out.note(title)
     out.row('stdout')
+    out.under(title + ': whole to\\sstandard\\soutput\\n')
     out.row('whole to\\sstandard\\soutput\\n')
     out.want(text.strip())
     out.want('%s: whole to\\sstandard\\soutput\\n: %s' % (title, ALL))
+    out.under(title + ': piece \\e')
     out.row('piece \\e')
     out.want('%s: piece \\e: %s' % (title, took(0)))
 
@@ -171,6 +175,7 @@ def rows(out):
     standard_output(out)
     for title, acts in STREAMS:
         follow(out, title, acts)
+    out.under('')
     out.row('statuses')
     for name, number in STATUSES:
         out.want('status %s: %d' % (name, number))

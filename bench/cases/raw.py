@@ -195,25 +195,29 @@ def limits():
 
 
 def broken(out, title, rule, place):
-    out.row('raw', title)
+    out.under(title)
+    out.row('raw')
     out.want('%s: rule %d at %d' % (title, rule, place))
 
 
 def whole(out, title, data):
-    out.row('sizes', title)
+    out.under(title)
+    out.row('sizes')
     out.want('%s: %s' % (title, told_sizes(data)))
 
 
 def lend(out, title, source, data):
     alter(out, source, [])
-    out.row('raw', title)
+    out.under(title)
+    out.row('raw')
     for line in lent(data):
         out.want('%s: %s' % (title, line))
 
 
 def large(out, title, source, data):
     alter(out, source, [])
-    out.row('digest', title)
+    out.under(title, '-digest')
+    out.row('raw')
     out.want('%s: %s' % (title, digest(lent(data))))
     whole(out, title + ', its sizes', data)
 
@@ -248,7 +252,8 @@ def rows(out):
         alter(out, 'five.dex', edits, 'sign', 'sum')
         whole(out, title, altered(five, edits))
         # the sums that the program has made are those of zlib and hashlib
-        out.row('digest', title + ', all lines')
+        out.under(title + ', all lines', '-digest')
+        out.row('raw')
         out.want('%s, all lines: %s' % (title, digest(lent(sign(altered(five, edits))))))
     out.note('three classes')
     alter(out, 'five.dex', THREE, 'sign', 'sum')

@@ -177,13 +177,15 @@ def begin(out, *sources):
 
 
 def read(out, title, lines):
-    out.row('read', title)
+    out.under(title)
+    out.row('read')
     for line in lines:
         out.want('%s: %s' % (title, line))
 
 
 def read_many(out, title, *files):
-    out.row('digest', title)
+    out.under(title, '-digest')
+    out.row('read')
     out.want('%s: %s' % (title, digest(program(*files))))
 
 

@@ -12,6 +12,10 @@ class Rows:
     def row(self, verb, *words):
         self.rows.append(' '.join([verb] + [str(w) for w in words if str(w)]))
 
+    def under(self, title, how=''):
+        """The title of what the rows below tell, which is told by its digest or shortly where that is said."""
+        self.row('under' + how, title)
+
     def want(self, line):
         self.wanted.append(line)
 

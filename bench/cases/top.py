@@ -177,8 +177,9 @@ def contents(calls):
     calls.out.row('show', 'cut.dex five.dex other.dex')
     calls.words(*WHOLE_RUN)
     shown = [('cut.dex', good[:111]), ('five.dex', good)]
-    calls.out.row('twice', 'two calls over one store')
-    for title in ('two calls over one store', 'two calls over one store, again'):
+    for title, verb in (('two calls over one store', 'run'), ('two calls over one store, again', 'again')):
+        calls.out.under(title)
+        calls.out.row(verb)
         calls.want(title, DONE, *shown)
         calls.out.wanted[-1] += ' other.dex is not there'
     calls.case('the published sums')
@@ -202,6 +203,7 @@ def contents(calls):
 
 def first_file(out):
     out.note('the first file')
+    out.under('first file')
     out.row('first', 'Lpi/Out;')
     out.want('first file: %d names, 2 classes, 1 file' % len(FIRST_NAMES))
     for number, name in enumerate(FIRST_NAMES):

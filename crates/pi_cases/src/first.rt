@@ -1,22 +1,28 @@
 // The first file of each chain, which is made by hand.
 use pi_model::numbers::NameNo;
-use pi_rows::spell::units_as_text;
+use pi_rows::fault::Fault;
+use pi_rows::told::Told;
 use pi_small::{core, is_small_program};
-use std::io;
+use std::alloc::Global;
 
-/// Tells its counts and names, and whether its program alone is small for a main class.
-pub(crate) fn tell_first_file(rt: &HostRuntime, main: &str) -> io::Result<()> {
-    let prog = core(rt.alloc())?;
-    let (names, classes, files) = (prog.names(), prog.classes(), prog.files());
-    println!(rt; "first file: {names} names, {classes} classes, {files} file")?;
-    for name in 0..names {
-        let text = units_as_text(rt.alloc(), prog.name(NameNo(name)).as_slice())?;
-        println!(rt; "first file: name {name} {text}")?;
+/// Adds its counts and names, and whether its program alone is small for a main class.
+pub(crate) fn add_first_file(told: &mut Told, alloc: Global, main: &str) -> Result<(), Fault> {
+    let prog = core(alloc)?;
+    told.value(&prog.names())?;
+    told.words(" names, ")?;
+    told.value(&prog.classes())?;
+    told.words(" classes, ")?;
+    told.value(&prog.files())?;
+    told.words(" file")?;
+    for name in 0..prog.names() {
+        told.line_of("name", &name)?;
+        told.words(" ")?;
+        told.units(prog.name(NameNo(name)).as_slice())?;
     }
-    let small = if is_small_program(&prog, main.as_bytes()) {
-        "small"
-    } else {
-        "not small"
-    };
-    println!(rt; "first file: {small} for {main}")
+    told.line()?;
+    if !is_small_program(&prog, main.as_bytes()) {
+        told.words("not ")?;
+    }
+    told.words("small for ")?;
+    told.words(main)
 }

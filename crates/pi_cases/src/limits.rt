@@ -1,5 +1,6 @@
 // A sink in memory, as a row describes it.
 use pi_base::mem_sink::MemSink;
+use pi_rows::fault::Fault;
 use pi_rows::words::numbers_of;
 use std::alloc::{AllocError, Global};
 
@@ -24,13 +25,9 @@ impl Limits {
 }
 
 /// The limits that a row says: the room, and the numbers of calls.
-pub(crate) fn limits_of(alloc: Global, text: &str) -> Result<Option<Limits>, AllocError> {
+pub(crate) fn limits_of(alloc: Global, text: &str) -> Result<Limits, Fault> {
     let (room, fails) = text.split_once(' ').unwrap_or((text, ""));
-    let Ok(room) = room.parse::<usize>() else {
-        return Ok(None);
-    };
-    match numbers_of(alloc, fails)? {
-        Some(fails) => Ok(Some(Limits { room, fails })),
-        None => Ok(None),
-    }
+    let room = room.parse::<usize>()?;
+    let fails = numbers_of::<u64>(alloc, fails)?;
+    Ok(Limits { room, fails })
 }

@@ -14,11 +14,10 @@ use outside::Outside;
 use pi_partrows::arith::Arithmetic;
 use pi_partrows::insns::Instructions;
 use pi_partrows::lists::Lists;
-use pi_partrows::lookups::Lookups;
 use pi_partrows::numbers::Numbers;
-use pi_readrows::code::Codes;
-use pi_readrows::members::Members;
-use pi_readrows::raw::Tables;
+use pi_readrows::asmtext::AsmText;
+use pi_readrows::jobs::Jobs;
+use pi_readrows::lookups::Lookups;
 use pi_readrows::reader::Reader;
 use pi_rows::follow::follow_rows;
 use pi_storerows::acts::Acts;
@@ -26,32 +25,21 @@ use pi_storerows::frames::Counted;
 use pi_storerows::literals::Watched;
 use pi_storerows::memory::Spaces;
 use pi_storerows::patch::Moves;
-use pi_textrows::asmtext::AsmText;
-use pi_textrows::jobs::Jobs;
 use std::alloc::Global;
 use std::io;
 use top::Top;
 
 fn main(rt: HostRuntime) -> io::Result<()> {
     let alloc = rt.alloc();
-    follow_rows(&rt, "outside", Outside::new(alloc))?;
+    follow_rows(&rt, "outside", Outside::new())?;
     follow_rows(&rt, "top", Top::new(alloc))?;
-    follow_reader(&rt, alloc)?;
-    follow_texts(&rt, alloc)?;
+    for file in ["raw", "members", "code", "reader"].iter() {
+        follow_rows(&rt, file, Reader::new(alloc))?;
+    }
+    follow_rows(&rt, "jobs", Jobs::new(alloc))?;
+    follow_rows(&rt, "asmtext", AsmText::new(alloc))?;
     follow_parts(&rt, alloc)?;
     follow_stores(&rt, alloc)
-}
-
-fn follow_reader(rt: &HostRuntime, alloc: Global) -> io::Result<()> {
-    follow_rows(rt, "raw", Tables::new(alloc))?;
-    follow_rows(rt, "members", Members::new(alloc))?;
-    follow_rows(rt, "code", Codes::new(alloc))?;
-    follow_rows(rt, "reader", Reader::new(alloc))
-}
-
-fn follow_texts(rt: &HostRuntime, alloc: Global) -> io::Result<()> {
-    follow_rows(rt, "jobs", Jobs::new(alloc))?;
-    follow_rows(rt, "asmtext", AsmText::new(alloc))
 }
 
 fn follow_parts(rt: &HostRuntime, alloc: Global) -> io::Result<()> {

@@ -4,7 +4,7 @@ use std::io::{ErrorKind, Write};
 
 /// The call at which a writer is at fault.
 #[derive(Clone, Copy, PartialEq, Eq)]
-pub(crate) enum Fault {
+pub(crate) enum Fails {
     Never,
     AtWrite,
     AtFlush,
@@ -15,7 +15,7 @@ pub(crate) enum Fault {
 pub(crate) struct Moody {
     pub(crate) interrupts: u8,
     pub(crate) most: usize,
-    pub(crate) fault: Fault,
+    pub(crate) fault: Fails,
 }
 
 impl Write for Moody {
@@ -24,14 +24,14 @@ impl Write for Moody {
             self.interrupts -= 1;
             return Err(io::Error::from(ErrorKind::Interrupted));
         }
-        if self.fault == Fault::AtWrite {
+        if self.fault == Fails::AtWrite {
             return Err(io::Error::from(ErrorKind::BrokenPipe));
         }
         Ok(piece.len().min(self.most))
     }
 
     fn flush(&mut self) -> io::Result<()> {
-        if self.fault == Fault::AtFlush {
+        if self.fault == Fails::AtFlush {
             return Err(io::Error::from(ErrorKind::BrokenPipe));
         }
         Ok(())

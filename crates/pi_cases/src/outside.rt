@@ -1,6 +1,5 @@
 // What the system reads from and writes to: stores, sinks and statuses. The rows that set something up tell nothing:
 //
-//   case TITLE                 the rows that follow are told under this title
 //   memory CALL..              an empty store in memory, and its calls that fail
 //   files                      the files of the system as a store: NAME is one of this process in the folder for temporary
 //                              files, and . is that folder
@@ -27,16 +26,15 @@ use crate::sinks::{Taker, sink_of};
 use crate::stores::{Contents, remove};
 use pi_base::mem_store::MemStore;
 use pi_base::status::Status;
-use pi_rows::follow::{Subject, set};
-use pi_rows::spell::content_as_text;
-use pi_rows::words::{numbers_of, text_of, word_of};
-use std::alloc::{AllocError, Global};
-use std::io;
+use pi_rows::fault::Fault;
+use pi_rows::follow::Subject;
+use pi_rows::told::Told;
+use pi_rows::words::{copies, halves, numbers_of, text_of, word_of};
+use std::alloc::Global;
 
 /// The store and the sink that rows have described.
 #[derive(Drop)]
 pub(crate) struct Outside {
-    title: String,
     store: Contents,
     sink: Taker,
 }
@@ -68,197 +66,133 @@ const STATUSES: [Status; 23] = [
     Status::Differs,
 ];
 
+/// The most bytes of a content that are told.
+const MOST_TOLD: usize = 64;
+
 impl Outside {
     /// The files of the system, and no sink.
-    pub(crate) fn new(alloc: Global) -> Outside {
+    pub(crate) fn new() -> Outside {
         Outside {
-            title: String::new(alloc),
             store: Contents::Files,
             sink: Taker::Absent,
         }
     }
 
-    /// Follows a row that tells nothing. The answer is whether it was one.
-    fn set_up(&mut self, rt: &HostRuntime, verb: &str, rest: &str) -> io::Result<bool> {
-        let alloc = rt.alloc();
-        match verb {
-            "case" => self.title = String::from_str(alloc, rest)?,
-            "files" => self.store = Contents::Files,
-            "remove" => remove(rt, rest)?,
-            "memory" => return Ok(set(&mut self.store, memory_of(alloc, rest)?)),
-            "put" => return Ok(self.put(alloc, rest)?),
-            _ => return Ok(set(&mut self.sink, sink_of(rt, verb, rest)?)),
-        }
-        Ok(true)
-    }
-
-    fn put(&mut self, alloc: Global, rest: &str) -> Result<bool, AllocError> {
-        let Contents::Memory(store) = &mut self.store else {
-            return Ok(false);
-        };
-        let Some((name, bytes)) = named_content(alloc, rest)? else {
-            return Ok(false);
-        };
-        store.put(alloc, name.as_str(), bytes.as_slice())?;
-        Ok(true)
-    }
-
-    /// What a row is answered.
-    fn answer(&mut self, rt: &HostRuntime, verb: &str, rest: &str) -> io::Result<Option<String>> {
-        let alloc = rt.alloc();
-        match verb {
-            "get" => Ok(self.get(alloc, rest)?),
-            "read" => self.read(rt, rest),
-            "write" => self.write(rt, rest),
-            "piece" => Ok(self.piece(alloc, rest)?),
-            "whole" => Ok(self.whole(alloc, rest)?),
-            "bytes" => Ok(self.bytes(alloc)?),
-            _ => Ok(None),
+    /// The store in memory.
+    fn memory(&mut self) -> Result<&mut MemStore, Fault> {
+        match &mut self.store {
+            Contents::Memory(store) => Ok(store),
+            Contents::Files => Err(Fault::NoRow),
         }
     }
 
-    fn get(&self, alloc: Global, rest: &str) -> Result<Option<String>, AllocError> {
-        let Contents::Memory(store) = &self.store else {
-            return Ok(None);
-        };
-        let Some(name) = word_of(alloc, rest)? else {
-            return Ok(None);
-        };
-        let answer = match store.get(name.as_str()) {
-            Some(bytes) => content_as_text(alloc, bytes)?,
-            None => String::from_str(alloc, "not there")?,
-        };
-        Ok(Some(answer))
+    fn put(&mut self, alloc: Global, rest: &str) -> Result<(), Fault> {
+        let (name, content) = halves(rest)?;
+        let (name, bytes) = (word_of(alloc, name)?, content_of(alloc, content)?);
+        self.memory()?.put(alloc, name.as_str(), bytes.as_slice())?;
+        Ok(())
     }
 
-    fn read(&mut self, rt: &HostRuntime, rest: &str) -> io::Result<Option<String>> {
-        let alloc = rt.alloc();
-        let Some((name, limit)) = rest.split_once(' ') else {
-            return Ok(None);
-        };
-        let Some(name) = word_of(alloc, name)? else {
-            return Ok(None);
-        };
-        let Ok(limit) = limit.parse::<usize>() else {
-            return Ok(None);
-        };
-        let answer = match self.store.read(rt, name.as_str(), limit)? {
-            Ok(found) => content_as_text(alloc, found.as_slice())?,
-            Err(error) => format!(in alloc; "{error:?}")?,
-        };
-        Ok(Some(answer))
+    fn get(&mut self, told: &mut Told, alloc: Global, rest: &str) -> Result<(), Fault> {
+        let name = word_of(alloc, rest)?;
+        match self.memory()?.get(name.as_str()) {
+            Some(bytes) => add_content(told, bytes),
+            None => told.words("not there"),
+        }
     }
 
-    fn write(&mut self, rt: &HostRuntime, rest: &str) -> io::Result<Option<String>> {
-        let alloc = rt.alloc();
-        let Some((name, bytes)) = named_content(alloc, rest)? else {
-            return Ok(None);
-        };
-        let answer = match self.store.write(rt, name.as_str(), bytes.as_slice())? {
-            Ok(()) => String::from_str(alloc, "written")?,
-            Err(error) => format!(in alloc; "{error:?}")?,
-        };
-        Ok(Some(answer))
+    fn read(&mut self, told: &mut Told, rt: &HostRuntime, rest: &str) -> Result<(), Fault> {
+        let (name, limit) = halves(rest)?;
+        let name = word_of(rt.alloc(), name)?;
+        match self.store.read(rt, name.as_str(), limit.parse::<usize>()?)? {
+            Ok(found) => add_content(told, found.as_slice()),
+            Err(error) => told.debug(&error),
+        }
     }
 
-    fn piece(&mut self, alloc: Global, rest: &str) -> Result<Option<String>, AllocError> {
-        let Some(piece) = content_of(alloc, rest)? else {
-            return Ok(None);
-        };
-        let answer = match self.sink.write(piece.as_slice()) {
-            Ok(taken) => format!(in alloc; "took {taken}")?,
-            Err(error) => format!(in alloc; "{error:?}")?,
-        };
-        Ok(Some(answer))
+    fn write(&mut self, told: &mut Told, rt: &HostRuntime, rest: &str) -> Result<(), Fault> {
+        let (name, content) = halves(rest)?;
+        let name = word_of(rt.alloc(), name)?;
+        let bytes = content_of(rt.alloc(), content)?;
+        match self.store.write(rt, name.as_str(), bytes.as_slice())? {
+            Ok(()) => told.words("written"),
+            Err(error) => told.debug(&error),
+        }
     }
 
-    fn whole(&mut self, alloc: Global, rest: &str) -> Result<Option<String>, AllocError> {
-        let Some(piece) = content_of(alloc, rest)? else {
-            return Ok(None);
-        };
-        let answer = match self.sink.put(piece.as_slice()) {
-            Ok(()) => String::from_str(alloc, "took all")?,
-            Err(error) => format!(in alloc; "{error:?}")?,
-        };
-        Ok(Some(answer))
+    fn hand_once(&mut self, told: &mut Told, piece: &[u8]) -> Result<(), Fault> {
+        match self.sink.write(piece) {
+            Ok(taken) => {
+                told.words("took ")?;
+                told.value(&taken)
+            }
+            Err(error) => told.debug(&error),
+        }
     }
 
-    fn bytes(&self, alloc: Global) -> Result<Option<String>, AllocError> {
-        match &self.sink {
-            Taker::Memory(sink) => Ok(Some(content_as_text(alloc, sink.bytes())?)),
-            _ => Ok(None),
+    fn hand_all(&mut self, told: &mut Told, piece: &[u8]) -> Result<(), Fault> {
+        match self.sink.put(piece) {
+            Ok(()) => told.words("took all"),
+            Err(error) => told.debug(&error),
         }
     }
 }
 
 impl Subject for Outside {
-    fn follow(&mut self, rt: &HostRuntime, verb: &str, rest: &str) -> io::Result<bool> {
-        if verb == "statuses" {
-            tell_statuses(rt)?;
-            return Ok(true);
+    fn follow(
+        &mut self,
+        rt: &HostRuntime,
+        verb: &str,
+        rest: &str,
+        told: &mut Told,
+    ) -> Result<(), Fault> {
+        let alloc = rt.alloc();
+        match verb {
+            "memory" => {
+                let fails = numbers_of::<u64>(alloc, rest)?;
+                self.store = Contents::Memory(MemStore::new(alloc, fails.as_slice())?);
+            }
+            "files" => self.store = Contents::Files,
+            "put" => self.put(alloc, rest)?,
+            "remove" => remove(rt, rest)?,
+            "get" => self.get(told, alloc, rest)?,
+            "read" => self.read(told, rt, rest)?,
+            "write" => self.write(told, rt, rest)?,
+            "piece" => self.hand_once(told, content_of(alloc, rest)?.as_slice())?,
+            "whole" => self.hand_all(told, content_of(alloc, rest)?.as_slice())?,
+            "bytes" => match &self.sink {
+                Taker::Memory(sink) => add_content(told, sink.bytes())?,
+                _ => return Err(Fault::NoRow),
+            },
+            "statuses" => add_statuses(told)?,
+            _ => self.sink = sink_of(rt, verb, rest)?,
         }
-        if self.set_up(rt, verb, rest)? {
-            return Ok(true);
-        }
-        let Some(answer) = self.answer(rt, verb, rest)? else {
-            return Ok(false);
-        };
-        let row = format!(in rt.alloc(); "{verb} {rest}")?;
-        let (title, row) = (self.title.as_str(), row.trim_end());
-        println!(rt; "{title}: {row}: {answer}")?;
-        Ok(true)
-    }
-}
-
-fn memory_of(alloc: Global, calls: &str) -> Result<Option<Contents>, AllocError> {
-    match numbers_of(alloc, calls)? {
-        Some(fails) => Ok(Some(Contents::Memory(MemStore::new(alloc, fails.as_slice())?))),
-        None => Ok(None),
-    }
-}
-
-/// A name and a content.
-fn named_content(alloc: Global, rest: &str) -> Result<Option<(String, Vec<u8>)>, AllocError> {
-    let Some((name, content)) = rest.split_once(' ') else {
-        return Ok(None);
-    };
-    let Some(name) = word_of(alloc, name)? else {
-        return Ok(None);
-    };
-    match content_of(alloc, content)? {
-        Some(bytes) => Ok(Some((name, bytes))),
-        None => Ok(None),
+        Ok(())
     }
 }
 
 /// A text, so many times if a number says so.
-fn content_of(alloc: Global, content: &str) -> Result<Option<Vec<u8>>, AllocError> {
+fn content_of(alloc: Global, content: &str) -> Result<Vec<u8>, Fault> {
     let (text, times) = content.split_once(' ').unwrap_or((content, "1"));
-    let Some(text) = text_of(alloc, text)? else {
-        return Ok(None);
-    };
-    let Ok(times) = times.parse::<usize>() else {
-        return Ok(None);
-    };
-    Ok(Some(repeated(alloc, text.as_slice(), times)?))
+    let text = text_of(alloc, text)?;
+    copies(alloc, times.parse::<u64>()?, text.as_slice())
 }
 
-fn repeated(alloc: Global, text: &[u8], times: usize) -> Result<Vec<u8>, AllocError> {
-    let mut bytes = Vec::new(alloc);
-    for _ in 0..times {
-        bytes.extend_from_slice(text)?;
+/// Adds a content in brackets, or the length and the digest of a long one.
+fn add_content(told: &mut Told, bytes: &[u8]) -> Result<(), Fault> {
+    if bytes.len() > MOST_TOLD {
+        return told.digest(bytes);
     }
-    Ok(bytes)
+    told.words("[")?;
+    told.bytes(bytes)?;
+    told.words("]")
 }
 
-fn tell_statuses(rt: &HostRuntime) -> io::Result<()> {
+fn add_statuses(told: &mut Told) -> Result<(), Fault> {
     for status in STATUSES.iter() {
-        tell_status(rt, *status)?;
+        told.line_of("status", status)?;
+        told.words(": ")?;
+        told.value(&status.code())?;
     }
     Ok(())
-}
-
-fn tell_status(rt: &HostRuntime, status: Status) -> io::Result<()> {
-    let number = status.code();
-    println!(rt; "status {status:?}: {number}")
 }

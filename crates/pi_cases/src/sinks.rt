@@ -1,11 +1,12 @@
 // The sinks that rows write into.
 use crate::limits::limits_of;
-use crate::moody::{Fault, Moody};
+use crate::moody::{Fails, Moody};
 use pi_base::mem_sink::MemSink;
 use pi_base::outside::{Sink, SinkError};
 use pi_base::put::put_all;
 use pi_base::stream_sink::{ErrSink, OutSink, StreamSink};
-use std::alloc::{AllocError, Global};
+use pi_rows::fault::Fault;
+use pi_rows::words::halves;
 use std::fs::File;
 
 /// What takes pieces.
@@ -47,40 +48,30 @@ impl Taker {
 }
 
 /// The sink that a row describes.
-pub(crate) fn sink_of(
-    rt: &HostRuntime,
-    verb: &str,
-    rest: &str,
-) -> Result<Option<Taker>, AllocError> {
+pub(crate) fn sink_of(rt: &HostRuntime, verb: &str, rest: &str) -> Result<Taker, Fault> {
+    let alloc = rt.alloc();
     match verb {
-        "sink" => memory_sink(rt.alloc(), rest),
-        "moody" => Ok(moody_sink(rest)),
-        "device" => Ok(Some(device(rt, rest))),
-        "stdout" => Ok(Some(Taker::Out(OutSink::new(rt.stdout())))),
-        "stderr" => Ok(Some(Taker::Err(ErrSink::new(rt.stderr())))),
-        _ => Ok(None),
+        "sink" => Ok(Taker::Memory(limits_of(alloc, rest)?.sink(alloc)?)),
+        "moody" => moody_sink(rest),
+        "device" => Ok(device(rt, rest)),
+        "stdout" => Ok(Taker::Out(OutSink::new(rt.stdout()))),
+        "stderr" => Ok(Taker::Err(ErrSink::new(rt.stderr()))),
+        _ => Err(Fault::NoRow),
     }
 }
 
-fn memory_sink(alloc: Global, rest: &str) -> Result<Option<Taker>, AllocError> {
-    match limits_of(alloc, rest)? {
-        Some(limits) => Ok(Some(Taker::Memory(limits.sink(alloc)?))),
-        None => Ok(None),
-    }
-}
-
-fn moody_sink(rest: &str) -> Option<Taker> {
-    let (interrupts, rest) = rest.split_once(' ')?;
-    let (most, fault) = rest.split_once(' ')?;
+fn moody_sink(rest: &str) -> Result<Taker, Fault> {
+    let (interrupts, rest) = halves(rest)?;
+    let (most, fault) = halves(rest)?;
     let fault = match fault {
-        "never" => Fault::Never,
-        "write" => Fault::AtWrite,
-        "flush" => Fault::AtFlush,
-        _ => return None,
+        "never" => Fails::Never,
+        "write" => Fails::AtWrite,
+        "flush" => Fails::AtFlush,
+        _ => return Err(Fault::NoRow),
     };
-    Some(Taker::Moody(StreamSink::new(Moody {
-        interrupts: interrupts.parse::<u8>().ok()?,
-        most: most.parse::<usize>().ok()?,
+    Ok(Taker::Moody(StreamSink::new(Moody {
+        interrupts: interrupts.parse::<u8>()?,
+        most: most.parse::<usize>()?,
         fault,
     })))
 }

@@ -2,9 +2,8 @@
 use pi_base::file_store::FileStore;
 use pi_base::mem_store::MemStore;
 use pi_base::outside::{Store, StoreError};
-use std::alloc::{AllocError, Global};
-use std::io::ErrorKind;
-use std::{env, fs, io, process};
+use pi_rows::fault::Fault;
+use std::{env, fs, process};
 
 /// Where contents are.
 #[derive(Drop)]
@@ -14,13 +13,13 @@ pub(crate) enum Contents {
 }
 
 impl Contents {
-    /// What is read. The outer error is of the folder for temporary files.
+    /// What is read. The outer fault is of the folder for temporary files.
     pub(crate) fn read(
         &mut self,
         rt: &HostRuntime,
         name: &str,
         limit: usize,
-    ) -> io::Result<Result<Vec<u8>, StoreError>> {
+    ) -> Result<Result<Vec<u8>, StoreError>, Fault> {
         let alloc = rt.alloc();
         match self {
             Contents::Memory(store) => Ok(store.read(alloc, name, limit)),
@@ -31,13 +30,13 @@ impl Contents {
         }
     }
 
-    /// What a write answers. The outer error is of the folder for temporary files.
+    /// What a write answers. The outer fault is of the folder for temporary files.
     pub(crate) fn write(
         &mut self,
         rt: &HostRuntime,
         name: &str,
         bytes: &[u8],
-    ) -> io::Result<Result<(), StoreError>> {
+    ) -> Result<Result<(), StoreError>, Fault> {
         match self {
             Contents::Memory(store) => Ok(store.write(name, bytes)),
             Contents::Files => {
@@ -49,24 +48,21 @@ impl Contents {
 }
 
 /// Removes a file of the system.
-pub(crate) fn remove(rt: &HostRuntime, name: &str) -> io::Result<()> {
+pub(crate) fn remove(rt: &HostRuntime, name: &str) -> Result<(), Fault> {
     let path = path_of(rt, name)?;
-    fs::remove_file(rt, path.as_str())
+    Ok(fs::remove_file(rt, path.as_str())?)
 }
 
 /// The path of a name: one of this process alone in the folder for temporary files. A point names that folder.
-fn path_of(rt: &HostRuntime, name: &str) -> io::Result<String> {
+fn path_of(rt: &HostRuntime, name: &str) -> Result<String, Fault> {
+    let alloc = rt.alloc();
     let folder = env::temp_dir(rt)?;
     let Some(folder) = folder.to_str() else {
-        return Err(io::Error::from(ErrorKind::InvalidData));
+        return Err(Fault::NoRow);
     };
-    let path = match name {
-        "." => String::from_str(rt.alloc(), folder)?,
-        _ => own_path(rt.alloc(), folder, process::id(rt.process()), name)?,
-    };
-    Ok(path)
-}
-
-fn own_path(alloc: Global, folder: &str, id: u32, name: &str) -> Result<String, AllocError> {
-    format!(in alloc; "{folder}/pi_cases-{id}-{name}")
+    let id = process::id(rt.process());
+    match name {
+        "." => Ok(String::from_str(alloc, folder)?),
+        _ => Ok(format!(in alloc; "{folder}/pi_cases-{id}-{name}")?),
+    }
 }

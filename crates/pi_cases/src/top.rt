@@ -6,24 +6,24 @@
 //   out ROOM CALL..       the room of the output, and its calls that fail
 //   err ROOM CALL..       of the error stream
 //   show NAME..           contents that are told behind the call
-//   run TITLE             makes the call, and tells it under this title
-//   twice TITLE           makes it twice over one store, and tells both
+//   run                   makes the call, and tells it
+//   again                 makes it over the store that the last call left
 //   first MAIN            tells the first file of a chain, and whether that file alone is small for this main class
 //
 // A row stands until another of its kind. What is told is the status, the output, the lines on the error stream, and the
 // length and digest of each content that is asked for.
-use crate::first::tell_first_file;
+use crate::first::add_first_file;
 use crate::limits::{Limits, limits_of};
 use pi_base::mem_sink::MemSink;
 use pi_base::mem_store::MemStore;
+use pi_rows::fault::Fault;
 use pi_rows::files::{Named, follow_file};
-use pi_rows::follow::{Subject, set};
-use pi_rows::spell::{add_bytes, add_digits};
+use pi_rows::follow::Subject;
+use pi_rows::told::Told;
 use pi_rows::words::{numbers_of, words_of};
 use pi_top::tool;
 use sha1::Sha1;
 use std::alloc::{AllocError, Global};
-use std::io;
 
 /// The call that rows have described.
 #[derive(Drop)]
@@ -35,6 +35,8 @@ pub(crate) struct Top {
     fails: Vec<u64>,
     out: Limits,
     err: Limits,
+    /// As the last call left it.
+    left: Option<MemStore>,
 }
 
 impl Top {
@@ -47,6 +49,7 @@ impl Top {
             fails: Vec::new(alloc),
             out: Limits::new(alloc),
             err: Limits::new(alloc),
+            left: None,
         }
     }
 
@@ -58,52 +61,50 @@ impl Top {
         Ok(store)
     }
 
-    /// Makes the call, and tells it.
-    fn run(&self, rt: &HostRuntime, title: &str) -> io::Result<()> {
-        let mut store = self.store(rt.alloc())?;
-        self.run_over(rt, &mut store, title)
-    }
-
-    /// Makes the call twice over one store.
-    fn run_twice(&self, rt: &HostRuntime, title: &str) -> io::Result<()> {
-        let alloc = rt.alloc();
-        let mut store = self.store(alloc)?;
-        self.run_over(rt, &mut store, title)?;
-        let again = format!(in alloc; "{title}, again")?;
-        self.run_over(rt, &mut store, again.as_str())
-    }
-
-    fn run_over(&self, rt: &HostRuntime, store: &mut MemStore, title: &str) -> io::Result<()> {
-        let alloc = rt.alloc();
+    /// Makes the call over a store, and adds what it did.
+    fn run(&mut self, told: &mut Told, alloc: Global, mut store: MemStore) -> Result<(), Fault> {
         let mut out = self.out.sink(alloc)?;
         let mut err = self.err.sink(alloc)?;
-        let status = call(alloc, &self.words, store, &mut out, &mut err);
-        let mut line = format!(in alloc; "{title}: {status} [")?;
-        add_bytes(&mut line, alloc, out.bytes())?;
-        line.push_str("] [")?;
-        add_bytes(&mut line, alloc, err.bytes())?;
-        line.push_str("]")?;
-        add_contents(&mut line, alloc, store, &self.shown)?;
-        println!(rt; "{line}")
+        told.value(&call(alloc, &self.words, &mut store, &mut out, &mut err))?;
+        told.words(" [")?;
+        told.bytes(out.bytes())?;
+        told.words("] [")?;
+        told.bytes(err.bytes())?;
+        told.words("]")?;
+        add_contents(told, &store, &self.shown)?;
+        self.left = Some(store);
+        Ok(())
     }
 }
 
 impl Subject for Top {
-    fn follow(&mut self, rt: &HostRuntime, verb: &str, rest: &str) -> io::Result<bool> {
+    fn follow(
+        &mut self,
+        rt: &HostRuntime,
+        verb: &str,
+        rest: &str,
+        told: &mut Told,
+    ) -> Result<(), Fault> {
         let alloc = rt.alloc();
         match verb {
             "case" => *self = Top::new(alloc),
-            "run" => self.run(rt, rest)?,
-            "twice" => self.run_twice(rt, rest)?,
-            "first" => tell_first_file(rt, rest)?,
-            "words" => return Ok(set(&mut self.words, words_of(alloc, rest)?)),
-            "show" => return Ok(set(&mut self.shown, words_of(alloc, rest)?)),
-            "store" => return Ok(set(&mut self.fails, numbers_of(alloc, rest)?)),
-            "out" => return Ok(set(&mut self.out, limits_of(alloc, rest)?)),
-            "err" => return Ok(set(&mut self.err, limits_of(alloc, rest)?)),
-            _ => return follow_file(rt, &mut self.files, verb, rest),
+            "run" => {
+                let store = self.store(alloc)?;
+                self.run(told, alloc, store)?;
+            }
+            "again" => {
+                let store = self.left.take().ok_or(Fault::NoRow)?;
+                self.run(told, alloc, store)?;
+            }
+            "first" => add_first_file(told, alloc, rest)?,
+            "words" => self.words = words_of(alloc, rest)?,
+            "show" => self.shown = words_of(alloc, rest)?,
+            "store" => self.fails = numbers_of::<u64>(alloc, rest)?,
+            "out" => self.out = limits_of(alloc, rest)?,
+            "err" => self.err = limits_of(alloc, rest)?,
+            _ => follow_file(rt, &mut self.files, verb, rest)?,
         }
-        Ok(true)
+        Ok(())
     }
 }
 
@@ -118,20 +119,18 @@ fn call(
 }
 
 /// Adds the length and the digest of each of these contents.
-fn add_contents(
-    line: &mut String,
-    alloc: Global,
-    store: &MemStore,
-    names: &[String],
-) -> Result<(), AllocError> {
+fn add_contents(told: &mut Told, store: &MemStore, names: &[String]) -> Result<(), Fault> {
     for name in names {
+        told.words(" ")?;
+        told.words(name.as_str())?;
         match store.get(name.as_str()) {
             Some(bytes) => {
-                let length = bytes.len();
-                line.push_str(format!(in alloc; " {name} {length} ")?.as_str())?;
-                add_digits(line, alloc, &Sha1::digest(bytes))?;
+                told.words(" ")?;
+                told.value(&bytes.len())?;
+                told.words(" ")?;
+                told.digits(&Sha1::digest(bytes))?;
             }
-            None => line.push_str(format!(in alloc; " {name} is not there")?.as_str())?,
+            None => told.words(" is not there")?,
         }
     }
     Ok(())

@@ -5,111 +5,96 @@
 //   one OP A              an operation on one operand, of 64 bits as its answer
 //   compare A B           the comparison of two longs
 //
-// A row is told with its result.
+// A row is told by its result.
 use pi_arith::{cmp_long, int_op, long_op, un_op};
 use pi_model::insn::{BinOp, UnOp};
+use pi_rows::fault::Fault;
 use pi_rows::follow::Subject;
-use std::io;
+use pi_rows::told::Told;
+use pi_rows::words::halves;
 
 /// Nothing is kept from row to row.
 #[derive(Drop)]
 pub struct Arithmetic;
 
-/// What an operation answers.
-enum Answer {
-    Number(i64),
-    /// A division by 0.
-    None,
-}
-
 impl Subject for Arithmetic {
-    fn follow(&mut self, rt: &HostRuntime, verb: &str, rest: &str) -> io::Result<bool> {
-        match answer_of(verb, rest) {
-            Some(Answer::Number(number)) => println!(rt; "{verb} {rest}: {number}")?,
-            Some(Answer::None) => println!(rt; "{verb} {rest}: none")?,
-            None => return Ok(false),
+    fn follow(
+        &mut self,
+        _rt: &HostRuntime,
+        verb: &str,
+        rest: &str,
+        told: &mut Told,
+    ) -> Result<(), Fault> {
+        match outcome(verb, rest)? {
+            Some(number) => told.value(&number),
+            None => told.words("none"),
         }
-        Ok(true)
     }
 }
 
-/// What a row asks for; none where it is no row.
-fn answer_of(verb: &str, rest: &str) -> Option<Answer> {
+/// The result of a row's operation; none for a division by 0.
+fn outcome(verb: &str, rest: &str) -> Result<Option<i64>, Fault> {
+    let (first, behind) = halves(rest)?;
     match verb {
-        "int" => on_ints(rest),
-        "long" => on_longs(rest),
-        "one" => on_one(rest),
-        "compare" => comparison(rest),
-        _ => None,
+        "int" => on_ints(binary(first)?, behind),
+        "long" => on_longs(binary(first)?, behind),
+        "one" => Ok(Some(un_op(unary(first)?, long(behind)?).cast_signed())),
+        "compare" => Ok(Some(i64::from(cmp_long(long(first)?, long(behind)?).cast_signed()))),
+        _ => Err(Fault::NoRow),
     }
 }
 
-fn on_ints(rest: &str) -> Option<Answer> {
-    let (op, numbers) = rest.split_once(' ')?;
-    let (a, b) = numbers.split_once(' ')?;
-    let a = a.parse::<i32>().ok()?.cast_unsigned();
-    let b = b.parse::<i32>().ok()?.cast_unsigned();
-    match int_op(binary(op)?, a, b) {
-        Some(bits) => Some(Answer::Number(i64::from(bits.cast_signed()))),
-        None => Some(Answer::None),
+fn on_ints(op: BinOp, numbers: &str) -> Result<Option<i64>, Fault> {
+    let (a, b) = halves(numbers)?;
+    let (a, b) = (a.parse::<i32>()?, b.parse::<i32>()?);
+    match int_op(op, a.cast_unsigned(), b.cast_unsigned()) {
+        Some(bits) => Ok(Some(i64::from(bits.cast_signed()))),
+        None => Ok(None),
     }
 }
 
-fn on_longs(rest: &str) -> Option<Answer> {
-    let (op, numbers) = rest.split_once(' ')?;
-    let (a, b) = numbers.split_once(' ')?;
-    match long_op(binary(op)?, long(a)?, long(b)?) {
-        Some(bits) => Some(Answer::Number(bits.cast_signed())),
-        None => Some(Answer::None),
+fn on_longs(op: BinOp, numbers: &str) -> Result<Option<i64>, Fault> {
+    let (a, b) = halves(numbers)?;
+    match long_op(op, long(a)?, long(b)?) {
+        Some(bits) => Ok(Some(bits.cast_signed())),
+        None => Ok(None),
     }
-}
-
-fn on_one(rest: &str) -> Option<Answer> {
-    let (op, number) = rest.split_once(' ')?;
-    let bits = un_op(unary(op)?, long(number)?);
-    Some(Answer::Number(bits.cast_signed()))
-}
-
-fn comparison(rest: &str) -> Option<Answer> {
-    let (a, b) = rest.split_once(' ')?;
-    let bits = cmp_long(long(a)?, long(b)?);
-    Some(Answer::Number(i64::from(bits.cast_signed())))
 }
 
 /// The bits of a long.
-fn long(number: &str) -> Option<u64> {
-    Some(number.parse::<i64>().ok()?.cast_unsigned())
+fn long(number: &str) -> Result<u64, Fault> {
+    Ok(number.parse::<i64>()?.cast_unsigned())
 }
 
-fn binary(name: &str) -> Option<BinOp> {
+fn binary(name: &str) -> Result<BinOp, Fault> {
     match name {
-        "add" => Some(BinOp::Add),
-        "sub" => Some(BinOp::Sub),
-        "rsub" => Some(BinOp::Rsub),
-        "mul" => Some(BinOp::Mul),
-        "div" => Some(BinOp::Div),
-        "rem" => Some(BinOp::Rem),
-        "and" => Some(BinOp::And),
-        "or" => Some(BinOp::Or),
-        "xor" => Some(BinOp::Xor),
-        "shl" => Some(BinOp::Shl),
-        "shr" => Some(BinOp::Shr),
-        "ushr" => Some(BinOp::Ushr),
-        _ => None,
+        "add" => Ok(BinOp::Add),
+        "sub" => Ok(BinOp::Sub),
+        "rsub" => Ok(BinOp::Rsub),
+        "mul" => Ok(BinOp::Mul),
+        "div" => Ok(BinOp::Div),
+        "rem" => Ok(BinOp::Rem),
+        "and" => Ok(BinOp::And),
+        "or" => Ok(BinOp::Or),
+        "xor" => Ok(BinOp::Xor),
+        "shl" => Ok(BinOp::Shl),
+        "shr" => Ok(BinOp::Shr),
+        "ushr" => Ok(BinOp::Ushr),
+        _ => Err(Fault::NoRow),
     }
 }
 
-fn unary(name: &str) -> Option<UnOp> {
+fn unary(name: &str) -> Result<UnOp, Fault> {
     match name {
-        "neg-int" => Some(UnOp::NegInt),
-        "not-int" => Some(UnOp::NotInt),
-        "neg-long" => Some(UnOp::NegLong),
-        "not-long" => Some(UnOp::NotLong),
-        "int-to-long" => Some(UnOp::IntToLong),
-        "long-to-int" => Some(UnOp::LongToInt),
-        "int-to-byte" => Some(UnOp::IntToByte),
-        "int-to-char" => Some(UnOp::IntToChar),
-        "int-to-short" => Some(UnOp::IntToShort),
-        _ => None,
+        "neg-int" => Ok(UnOp::NegInt),
+        "not-int" => Ok(UnOp::NotInt),
+        "neg-long" => Ok(UnOp::NegLong),
+        "not-long" => Ok(UnOp::NotLong),
+        "int-to-long" => Ok(UnOp::IntToLong),
+        "long-to-int" => Ok(UnOp::LongToInt),
+        "int-to-byte" => Ok(UnOp::IntToByte),
+        "int-to-char" => Ok(UnOp::IntToChar),
+        "int-to-short" => Ok(UnOp::IntToShort),
+        _ => Err(Fault::NoRow),
     }
 }

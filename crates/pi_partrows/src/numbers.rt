@@ -1,193 +1,134 @@
 // Numbers and texts in bytes. The rows:
 //
-//   case TITLE            begins anew with no byte; what follows is told under this title
+//   case                  begins anew with no byte
 //   bytes HEX             bytes behind those that are there
 //   times COUNT HEX       bytes, so many times
 //   read PLACE CALL..     calls of one cursor that begins at the place: u8, u16, u32, uleb, sleb, at, and take=COUNT
 //   text COUNT            the text of so many units that the bytes begin with, and its number of bytes before the 0
-//   spell                 the bytes as units, the low byte first, are written as a text
-use crate::long::shortened;
+//   spell                 the bytes as units, the high byte first, are written as a text
 use pi_bytes::cursor::Cursor;
-use pi_bytes::fault::MutfError;
 use pi_bytes::mutf8::{mutf8_of, mutf8_units};
+use pi_rows::fault::Fault;
 use pi_rows::follow::Subject;
-use pi_rows::spell::{add_digits, units_as_text};
-use pi_rows::words::bytes_of;
-use std::alloc::{AllocError, Global};
-use std::io;
+use pi_rows::told::Told;
+use pi_rows::words::{bytes_of, copies_of, units_of};
+use std::alloc::Global;
 
-/// The bytes that rows have described, and the title of their case.
+/// The bytes that rows have described.
 #[derive(Drop)]
 pub struct Numbers {
-    title: String,
     bytes: Vec<u8>,
 }
 
 impl Numbers {
     pub fn new(alloc: Global) -> Numbers {
         Numbers {
-            title: String::new(alloc),
             bytes: Vec::new(alloc),
         }
     }
 
-    fn begin(alloc: Global, title: &str) -> Result<Numbers, AllocError> {
-        Ok(Numbers {
-            title: String::from_str(alloc, title)?,
-            bytes: Vec::new(alloc),
-        })
-    }
-
-    /// What a row asks for; none where it is no such row.
-    fn answer(&self, alloc: Global, verb: &str, rest: &str) -> Result<Option<String>, AllocError> {
-        match verb {
-            "read" => read(alloc, self.bytes.as_slice(), rest),
-            "text" => text(alloc, self.bytes.as_slice(), rest),
-            "spell" => Ok(Some(spelled(alloc, self.bytes.as_slice())?)),
-            _ => Ok(None),
-        }
+    fn add(&mut self, further: Vec<u8>) -> Result<(), Fault> {
+        self.bytes.extend_from_slice(further.as_slice())?;
+        Ok(())
     }
 }
 
 impl Subject for Numbers {
-    fn follow(&mut self, rt: &HostRuntime, verb: &str, rest: &str) -> io::Result<bool> {
+    fn follow(
+        &mut self,
+        rt: &HostRuntime,
+        verb: &str,
+        rest: &str,
+        told: &mut Told,
+    ) -> Result<(), Fault> {
         let alloc = rt.alloc();
         match verb {
-            "case" => *self = Numbers::begin(alloc, rest)?,
-            "bytes" => return Ok(add_times(alloc, &mut self.bytes, 1, rest)?),
-            "times" => return Ok(add_many(alloc, &mut self.bytes, rest)?),
-            _ => match self.answer(alloc, verb, rest)? {
-                Some(answer) => {
-                    let answer = shortened(alloc, answer)?;
-                    println!(rt; "{}: {answer}", self.title)?;
-                }
-                None => return Ok(false),
-            },
+            "case" => {
+                *self = Numbers::new(alloc);
+                Ok(())
+            }
+            "bytes" => {
+                let bytes = bytes_of(alloc, rest)?;
+                self.add(bytes)
+            }
+            "times" => {
+                let bytes = copies_of(alloc, rest)?;
+                self.add(bytes)
+            }
+            "read" => read(told, self.bytes.as_slice(), rest),
+            "text" => add_text(told, alloc, self.bytes.as_slice(), rest.parse::<u32>()?),
+            "spell" => spell(told, alloc, self.bytes.as_slice()),
+            _ => Err(Fault::NoRow),
         }
-        Ok(true)
     }
 }
 
-fn add_many(alloc: Global, bytes: &mut Vec<u8>, rest: &str) -> Result<bool, AllocError> {
-    let Some((count, digits)) = rest.split_once(' ') else {
-        return Ok(false);
-    };
-    match count.parse::<usize>() {
-        Ok(count) => add_times(alloc, bytes, count, digits),
-        Err(_) => Ok(false),
-    }
-}
-
-/// Adds the bytes of digits, so many times.
-fn add_times(
-    alloc: Global,
-    bytes: &mut Vec<u8>,
-    count: usize,
-    digits: &str,
-) -> Result<bool, AllocError> {
-    let Some(more) = bytes_of(alloc, digits)? else {
-        return Ok(false);
-    };
-    for _ in 0..count {
-        bytes.extend_from_slice(more.as_slice())?;
-    }
-    Ok(true)
-}
-
-/// What the calls of a cursor answer.
-fn read(alloc: Global, bytes: &[u8], rest: &str) -> Result<Option<String>, AllocError> {
+/// Adds what the calls of a cursor answer.
+fn read(told: &mut Told, bytes: &[u8], rest: &str) -> Result<(), Fault> {
     let (place, calls) = rest.split_once(' ').unwrap_or((rest, ""));
-    let Ok(place) = place.parse::<usize>() else {
-        return Ok(None);
-    };
+    let place = place.parse::<usize>()?;
     if place > bytes.len() {
-        return Ok(None);
+        return Err(Fault::NoRow);
     }
     let mut cursor = Cursor::new(bytes, place);
-    let mut line = String::new(alloc);
     for call in calls.split_whitespace() {
-        let Some(answer) = called(alloc, &mut cursor, call)? else {
-            return Ok(None);
-        };
-        if !line.is_empty() {
-            line.push(' ')?;
+        if told.is_begun() {
+            told.words(" ")?;
         }
-        line.push_str(answer.as_str())?;
+        add_call(told, &mut cursor, call)?;
     }
-    Ok(Some(line))
+    Ok(())
 }
 
-/// What one call of a cursor answers.
-fn called(
-    alloc: Global,
-    cursor: &mut Cursor<'_>,
-    call: &str,
-) -> Result<Option<String>, AllocError> {
-    let answer = match call {
-        "u8" => format!(in alloc; "{:?}", cursor.u8())?,
-        "u16" => format!(in alloc; "{:?}", cursor.u16())?,
-        "u32" => format!(in alloc; "{:?}", cursor.u32())?,
-        "uleb" => format!(in alloc; "{:?}", cursor.uleb())?,
-        "sleb" => format!(in alloc; "{:?}", cursor.sleb())?,
-        "at" => format!(in alloc; "{}", cursor.at())?,
-        _ => return taken(alloc, cursor, call),
-    };
-    Ok(Some(answer))
+/// Adds what one call of a cursor answers.
+fn add_call(told: &mut Told, cursor: &mut Cursor<'_>, call: &str) -> Result<(), Fault> {
+    match call {
+        "u8" => told.debug(&cursor.u8()),
+        "u16" => told.debug(&cursor.u16()),
+        "u32" => told.debug(&cursor.u32()),
+        "uleb" => told.debug(&cursor.uleb()),
+        "sleb" => told.debug(&cursor.sleb()),
+        "at" => told.value(&cursor.at()),
+        _ => match call.strip_prefix("take=") {
+            Some(count) => take(told, cursor, count.parse::<usize>()?),
+            None => Err(Fault::NoRow),
+        },
+    }
 }
 
-/// What taking a piece answers.
-fn taken(alloc: Global, cursor: &mut Cursor<'_>, call: &str) -> Result<Option<String>, AllocError> {
-    let Some(count) = taken_count(call) else {
-        return Ok(None);
-    };
+/// Adds what taking a piece answers.
+fn take(told: &mut Told, cursor: &mut Cursor<'_>, count: usize) -> Result<(), Fault> {
     match cursor.take(count) {
-        Ok(piece) => Ok(Some(piece_as_text(alloc, piece)?)),
-        Err(fault) => Ok(Some(format!(in alloc; "Err({fault:?})")?)),
+        Ok(piece) => {
+            told.words("[")?;
+            told.digits(piece)?;
+            told.words("]")
+        }
+        Err(fault) => {
+            told.words("Err(")?;
+            told.debug(&fault)?;
+            told.words(")")
+        }
     }
 }
 
-/// How many bytes a call takes.
-fn taken_count(call: &str) -> Option<usize> {
-    let (verb, count) = call.split_once('=')?;
-    if verb != "take" {
-        return None;
-    }
-    count.parse::<usize>().ok()
-}
-
-fn piece_as_text(alloc: Global, piece: &[u8]) -> Result<String, AllocError> {
-    let mut text = String::from_str(alloc, "[")?;
-    add_digits(&mut text, alloc, piece)?;
-    text.push(']')?;
-    Ok(text)
-}
-
-/// The text that bytes begin with.
-fn text(alloc: Global, bytes: &[u8], count: &str) -> Result<Option<String>, AllocError> {
-    let Ok(count) = count.parse::<u32>() else {
-        return Ok(None);
-    };
+/// Adds the text that bytes begin with.
+fn add_text(told: &mut Told, alloc: Global, bytes: &[u8], count: u32) -> Result<(), Fault> {
     match mutf8_units(alloc, bytes, count) {
         Ok((units, before)) => {
-            let text = units_as_text(alloc, units.as_slice())?;
-            let text = shortened(alloc, text)?;
-            Ok(Some(format!(in alloc; "[{text}] {before}")?))
+            let mut text = Told::new(alloc);
+            text.units(units.as_slice())?;
+            told.words("[")?;
+            told.short(text.as_str())?;
+            told.words("] ")?;
+            told.value(&before)
         }
-        Err(MutfError::OutOfMemory) => Err(AllocError),
-        Err(fault) => Ok(Some(format!(in alloc; "{fault:?}: {fault}")?)),
+        Err(fault) => told.fault(&fault),
     }
 }
 
-/// The text of the units that bytes are.
-fn spelled(alloc: Global, bytes: &[u8]) -> Result<String, AllocError> {
-    let mut units: Vec<u16> = Vec::new(alloc);
-    for pair in bytes.chunks(2) {
-        if let [low, high] = pair {
-            units.push(u16::from_le_bytes([*low, *high]))?;
-        }
-    }
-    let text = mutf8_of(alloc, units.as_slice())?;
-    let mut answer = String::new(alloc);
-    add_digits(&mut answer, alloc, text.as_slice())?;
-    Ok(answer)
+/// Adds the text of the units that bytes are.
+fn spell(told: &mut Told, alloc: Global, bytes: &[u8]) -> Result<(), Fault> {
+    let units = units_of(alloc, bytes)?;
+    told.digits(mutf8_of(alloc, units.as_slice())?.as_slice())
 }

@@ -1,274 +1,194 @@
-// Code items of the last file. Beside the rows on files:
-//
-//   case                            no files
-//   item PLACE WORDS TITLE          the code item at a place: whether it holds for a method with so many argument words, its
-//                                   head, its ranges, its handlers, and the pieces that its units are
-//   digest PLACE WORDS TITLE        the digest of these lines
-//   list PLACE AT TITLE             the list of handlers of a code item that stands at another place
-//   piece PLACE UNIT TITLE          the piece at a unit of a code item
-//   payload PLACE UNIT DIST TITLE   the payload so far from a unit
-//   says PLACE TITLE                the code that a code item says, where string k has the name 100 + k
-//
-// A file of fewer than 112 bytes, or of more than 16 MiB, is not asked, nor for more than the first two rows a code item that
-// is not in the file.
-ghost use Rattle.std.specs.Prelude.{◌≡◌, ◌<◌, ◌≤◌, length, true, IfOk, IfSome};
+// The code items of a file, as rows of reader.rt ask for them.
+ghost use Rattle.std.specs.Prelude.{◌≡◌, ◌<◌, ◌≤◌, length, true, IfOk};
 ghost use Rattle.pi_format.specs.Rules.CodeItems.{code_lies};
 
-use crate::lines::{Telling, tell};
-use crate::said::tell_code;
+use crate::said::add_code;
 use pi_codeitem::{
     Piece, broken_index, broken_payload, handlers, head, holds, lies, lists_at, ranges_hold,
     try_range, units, walk,
 };
-use pi_rows::files::{Named, follow_file};
-use pi_rows::follow::Subject;
-use pi_rows::words::number_before;
-use std::alloc::{AllocError, Global};
-use std::io;
+use pi_rows::fault::Fault;
+use pi_rows::told::Told;
+use pi_rows::words::numbers_of;
+use std::alloc::Global;
 
-/// The files that rows have described.
-#[derive(Drop)]
-pub struct Codes {
-    files: Vec<Named>,
-}
-
-impl Codes {
-    pub fn new(alloc: Global) -> Codes {
-        Codes {
-            files: Vec::new(alloc),
-        }
-    }
-
-    /// Follows a row on a code item of the last file.
-    fn ask(&self, rt: &HostRuntime, verb: &str, rest: &str) -> io::Result<bool> {
-        let Some(file) = self.files.last() else {
-            return Ok(false);
-        };
-        let Some((place, rest)) = number_before(rest) else {
-            return Ok(false);
-        };
-        let file = file.bytes.as_slice();
-        match verb {
-            "item" => tell_item(rt, Telling::Lines, file, place, rest),
-            "digest" => tell_item(rt, Telling::Digest, file, place, rest),
-            "list" => tell_list(rt, file, place, rest),
-            "piece" => tell_piece(rt, file, place, rest),
-            "payload" => tell_payload(rt, file, place, rest),
-            "says" => tell_code(rt, file, place, rest),
-            _ => Ok(false),
-        }
-    }
-}
-
-impl Subject for Codes {
-    fn follow(&mut self, rt: &HostRuntime, verb: &str, rest: &str) -> io::Result<bool> {
-        match verb {
-            "case" => {
-                *self = Codes::new(rt.alloc());
-                Ok(true)
-            }
-            "item" | "digest" | "list" | "piece" | "payload" | "says" => self.ask(rt, verb, rest),
-            _ => follow_file(rt, &mut self.files, verb, rest),
-        }
-    }
-}
-
-fn tell_item(
-    rt: &HostRuntime,
-    telling: Telling,
+/// Follows a row on a code item.
+pub(crate) fn follow_code(
+    told: &mut Told,
+    alloc: Global,
     file: &[u8],
-    place: u32,
+    verb: &str,
     rest: &str,
-) -> io::Result<bool> {
-    let Some((words, title)) = number_before(rest) else {
-        return Ok(false);
+) -> Result<(), Fault>
+    requires { length file.now ≤ 16777216 }
+{
+    let numbers = numbers_of::<i64>(alloc, rest)?;
+    let [place, further @ ..] = numbers.as_slice() else {
+        return Err(Fault::NoRow);
     };
-    if file.len() < 112 || file.len() > 16777216 {
-        return Ok(false);
+    let at = word(*place)?;
+    if file.len() < 112 {
+        return Err(Fault::NoRow);
     }
-    let lines = item(rt.alloc(), file, place as usize, words)?;
-    tell(rt, telling, title, lines.as_slice())?;
-    Ok(true)
+    match (verb, further) {
+        ("item", [words]) => add_item(told, alloc, file, at as usize, word(*words)?),
+        ("says", []) => add_code(told, alloc, file, at as usize),
+        _ if !lies(file, at as usize) => Err(Fault::NoRow),
+        ("list", [list]) => add_list(told, alloc, file, at as usize, word(*list)?),
+        ("piece", [unit]) => add_piece(told, alloc, file, at as usize, word(*unit)?),
+        ("payload", [unit, dist]) => {
+            let dist = i32::try_from(*dist)?;
+            add_payload(told, alloc, file, at as usize, word(*unit)?, dist)
+        }
+        _ => Err(Fault::NoRow),
+    }
 }
 
-/// What a code item is.
-fn item(alloc: Global, file: &[u8], at: usize, words: u32) -> Result<Vec<String>, AllocError>
+fn word(number: i64) -> Result<u32, Fault> {
+    Ok(u32::try_from(number)?)
+}
+
+/// Adds what a code item is.
+fn add_item(told: &mut Told, alloc: Global, file: &[u8], at: usize, words: u32) -> Result<(), Fault>
     requires header { 112 ≤ length file.now }
     requires small { length file.now ≤ 16777216 }
     requires place { at < 4294967296 }
 {
-    let mut lines = Vec::new(alloc);
-    let holds = holds(alloc, file, at, words)?;
-    lines.push(format!(in alloc; "holds {holds}")?)?;
+    told.line_of("holds", &holds(alloc, file, at, words)?)?;
     if !lies(file, at) {
-        return Ok(lines);
+        return Ok(());
     }
-    add_head(&mut lines, alloc, file, at)?;
-    add_ranges(&mut lines, alloc, file, at)?;
-    add_lists(&mut lines, alloc, file, at)?;
-    add_walk(&mut lines, alloc, file, at)?;
-    Ok(lines)
+    add_head(told, file, at)?;
+    add_lists(told, alloc, file, at)?;
+    add_walk(told, alloc, file, at)
 }
 
-fn add_head(
-    lines: &mut Vec<String>,
-    alloc: Global,
-    file: &[u8],
-    at: usize,
-) -> Result<(), AllocError>
+/// Adds the head and the ranges.
+fn add_head(told: &mut Told, file: &[u8], at: usize) -> Result<(), Fault>
     requires place { at < 4294967296 }
     requires lies { code_lies file.now at ≡ true }
 {
     let head = head(file, at);
-    lines.push(format!(in alloc; "{head:?}, lists at {}", lists_at(at, &head))?)?;
-    Ok(())
-}
-
-fn add_ranges(
-    lines: &mut Vec<String>,
-    alloc: Global,
-    file: &[u8],
-    at: usize,
-) -> Result<(), AllocError>
-    requires place { at < 4294967296 }
-    requires lies { code_lies file.now at ≡ true }
-{
-    let head = head(file, at);
+    told.line()?;
+    told.debug(&head)?;
+    told.words(", lists at ")?;
+    told.value(&lists_at(at, &head))?;
     if head.tries == 0 {
         return Ok(());
     }
     if !ranges_hold(file, at, &head) {
-        lines.push(format!(in alloc; "ranges that do not hold")?)?;
-        return Ok(());
+        told.line()?;
+        return told.words("ranges that do not hold");
     }
     for k in 0..head.tries as usize {
-        let range = try_range(file, at, k);
-        lines.push(format!(in alloc; "{range:?}")?)?;
+        told.line()?;
+        told.debug(&try_range(file, at, k))?;
     }
     Ok(())
 }
 
-fn add_lists(
-    lines: &mut Vec<String>,
-    alloc: Global,
-    file: &[u8],
-    at: usize,
-) -> Result<(), AllocError>
+fn add_lists(told: &mut Told, alloc: Global, file: &[u8], at: usize) -> Result<(), Fault>
     requires header { 112 ≤ length file.now }
     requires small { length file.now ≤ 16777216 }
     requires place { at < 4294967296 }
     requires lies { code_lies file.now at ≡ true }
 {
     let Some(lists) = handlers(alloc, file, at)? else {
-        lines.push(format!(in alloc; "lists that do not hold")?)?;
-        return Ok(());
+        told.line()?;
+        return told.words("lists that do not hold");
     };
     for list in lists.as_slice() {
-        lines.push(format!(in alloc; "{list:?}")?)?;
+        told.line()?;
+        told.debug(list)?;
     }
     Ok(())
 }
 
 /// Adds the units, the pieces that they are, and where rules on them are broken.
-fn add_walk(
-    lines: &mut Vec<String>,
-    alloc: Global,
-    file: &[u8],
-    at: usize,
-) -> Result<(), AllocError>
+fn add_walk(told: &mut Told, alloc: Global, file: &[u8], at: usize) -> Result<(), Fault>
     requires header { 112 ≤ length file.now }
     requires lies { code_lies file.now at ≡ true }
 {
     let units = units(alloc, file, at)?;
-    lines.push(format!(in alloc; "units {units:?}")?)?;
+    told.line_of("units", &units)?;
     if units.len() > 16777216 {
         return Ok(());
     }
     let walk = walk(alloc, units.as_slice())?;
-    lines.push(pieces(alloc, walk.pieces())?)?;
-    lines.push(format!(in alloc; "stops at {:?}", walk.stop())?)?;
-    let payload = broken_payload(&walk);
-    let index = broken_index(file, &walk);
-    lines.push(format!(in alloc; "broken payload {payload:?}, broken index {index:?}")?)?;
+    add_pieces(told, walk.pieces())?;
+    told.line_of("stops at", &walk.stop())?;
+    told.line_of("broken payload", &broken_payload(&walk))?;
+    told.words(", broken index ")?;
+    told.debug(&broken_index(file, &walk))
+}
+
+fn add_pieces(told: &mut Told, pieces: &[Piece<'_>]) -> Result<(), Fault> {
+    told.line()?;
+    told.value(&pieces.len())?;
+    told.words(" pieces")?;
+    for piece in pieces {
+        told.words(" ")?;
+        add_spelled(told, piece)?;
+    }
     Ok(())
 }
 
-fn pieces(alloc: Global, pieces: &[Piece<'_>]) -> Result<String, AllocError> {
-    let mut line = format!(in alloc; "{} pieces", pieces.len())?;
-    for piece in pieces {
-        line.push_str(" ")?;
-        line.push_str(spelled(alloc, piece)?.as_str())?;
+/// Adds a piece by its first unit and the number of its units, and whether it is a payload.
+fn add_spelled(told: &mut Told, piece: &Piece<'_>) -> Result<(), Fault> {
+    told.value(&piece.at)?;
+    told.words("+")?;
+    told.value(&piece.units)?;
+    if piece.payload().is_some() {
+        told.words(" payload")?;
     }
-    Ok(line)
+    Ok(())
 }
 
-/// A piece by its first unit and the number of its units, and whether it is a payload.
-fn spelled(alloc: Global, piece: &Piece<'_>) -> Result<String, AllocError> {
-    let kind = if piece.payload().is_some() {
-        " payload"
-    } else {
-        ""
-    };
-    format!(in alloc; "{}+{}{kind}", piece.at, piece.units)
-}
-
-/// The units of a code item, where it is in the file.
-fn units_at(alloc: Global, file: &[u8], place: u32) -> Result<Option<Vec<u16>>, AllocError>
-    ensures { IfOk result (λ read. IfSome read (λ units. length units.items ≤ 16777216)) }
+fn add_list(told: &mut Told, alloc: Global, file: &[u8], at: usize, list: u32) -> Result<(), Fault>
+    requires header { 112 ≤ length file.now }
+    requires small { length file.now ≤ 16777216 }
+    requires place { at < 4294967296 }
+    requires lies { code_lies file.now at ≡ true }
 {
-    if !lies(file, place as usize) {
-        return Ok(None);
+    match handlers(alloc, file, at)? {
+        Some(lists) => told.debug(&lists.find(list)),
+        None => Err(Fault::NoRow),
     }
-    let units = units(alloc, file, place as usize)?;
+}
+
+/// The units of a code item.
+fn few_units(alloc: Global, file: &[u8], at: usize) -> Result<Vec<u16>, Fault>
+    requires lies { code_lies file.now at ≡ true }
+    ensures { IfOk result (λ units. length units.items ≤ 16777216) }
+{
+    let units = units(alloc, file, at)?;
     if units.len() > 16777216 {
-        return Ok(None);
+        return Err(Fault::NoRow);
     }
-    Ok(Some(units))
+    Ok(units)
 }
 
-fn tell_list(rt: &HostRuntime, file: &[u8], place: u32, rest: &str) -> io::Result<bool> {
-    let Some((at, title)) = number_before(rest) else {
-        return Ok(false);
-    };
-    if file.len() < 112 || file.len() > 16777216 || !lies(file, place as usize) {
-        return Ok(false);
+fn add_piece(told: &mut Told, alloc: Global, file: &[u8], at: usize, unit: u32) -> Result<(), Fault>
+    requires lies { code_lies file.now at ≡ true }
+{
+    let units = few_units(alloc, file, at)?;
+    match walk(alloc, units.as_slice())?.piece_at(unit) {
+        Some(piece) => add_spelled(told, piece),
+        None => told.words("none"),
     }
-    let Some(lists) = handlers(rt.alloc(), file, place as usize)? else {
-        return Ok(false);
-    };
-    println!(rt; "{title}: {:?}", lists.find(at))?;
-    Ok(true)
 }
 
-fn tell_piece(rt: &HostRuntime, file: &[u8], place: u32, rest: &str) -> io::Result<bool> {
-    let Some((unit, title)) = number_before(rest) else {
-        return Ok(false);
-    };
-    let Some(units) = units_at(rt.alloc(), file, place)? else {
-        return Ok(false);
-    };
-    let walk = walk(rt.alloc(), units.as_slice())?;
-    match walk.piece_at(unit) {
-        Some(piece) => println!(rt; "{title}: {}", spelled(rt.alloc(), piece)?)?,
-        None => println!(rt; "{title}: none")?,
-    }
-    Ok(true)
-}
-
-fn tell_payload(rt: &HostRuntime, file: &[u8], place: u32, rest: &str) -> io::Result<bool> {
-    let Some((unit, rest)) = number_before(rest) else {
-        return Ok(false);
-    };
-    let Some((dist, title)) = rest.split_once(' ') else {
-        return Ok(false);
-    };
-    let Ok(dist) = dist.parse::<i32>() else {
-        return Ok(false);
-    };
-    let Some(units) = units_at(rt.alloc(), file, place)? else {
-        return Ok(false);
-    };
-    let walk = walk(rt.alloc(), units.as_slice())?;
-    println!(rt; "{title}: {:?}", walk.payload_of(unit, dist))?;
-    Ok(true)
+fn add_payload(
+    told: &mut Told,
+    alloc: Global,
+    file: &[u8],
+    at: usize,
+    unit: u32,
+    dist: i32,
+) -> Result<(), Fault>
+    requires lies { code_lies file.now at ≡ true }
+{
+    let units = few_units(alloc, file, at)?;
+    let walk = walk(alloc, units.as_slice())?;
+    told.debug(&walk.payload_of(unit, dist))
 }

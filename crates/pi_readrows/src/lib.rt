@@ -1,10 +1,15 @@
-// Rows on the reader: what files say behind each other, the tables of a file, the members of its classes, and code items.
-// docs/WORKING.md says how a case is added.
+// Rows on what is read: the tables of a file, the members of its classes and its code items; programs, and look-ups in them;
+// jobs, selections and assembler text. docs/WORKING.md says how a case is added.
 #![tactic(auto)]
 
-pub mod code;
-mod lines;
-pub mod members;
-pub mod raw;
+pub mod asmtext;
+mod chain;
+mod code;
+pub mod jobs;
+pub mod lookups;
+mod members;
+mod numbered;
+mod raw;
 pub mod reader;
 mod said;
+mod texts;

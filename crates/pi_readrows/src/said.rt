@@ -1,5 +1,5 @@
 // The code that a code item of a file says, where string k of the file has the name 100 + k.
-ghost use Rattle.std.specs.Prelude.{◌≡◌, ◌≤◌, length, true, None, IsTrue, IfOk};
+ghost use Rattle.std.specs.Prelude.{◌≡◌, ◌<◌, ◌≤◌, length, true, None, OnOk};
 ghost use Rattle.pi_format.specs.Rules.CodeItems.{code_lies};
 ghost use Rattle.pi_format.specs.Rules.Pieces.{index_holds, first_insn, code_walk};
 
@@ -7,33 +7,23 @@ use pi_codeitem::{broken_index, handlers, lies, units, walk};
 use pi_dexcode::{Named, code};
 use pi_dexraw::Raw;
 use pi_model::numbers::NameNo;
+use pi_rows::fault::Fault;
+use pi_rows::told::Told;
 use std::alloc::{AllocError, Global};
-use std::io;
 
-/// Tells the code at a place. The answer is whether there is one that breaks no rule.
-pub(crate) fn tell_code(
-    rt: &HostRuntime,
-    file: &[u8],
-    place: u32,
-    title: &str,
-) -> io::Result<bool> {
-    let alloc = rt.alloc();
-    if file.len() > 16777216 {
-        return Ok(false);
-    }
+/// Adds the code at a place of a file that breaks no rule on tables.
+pub(crate) fn add_code(told: &mut Told, alloc: Global, file: &[u8], at: usize) -> Result<(), Fault>
+    requires small { length file.now ≤ 16777216 }
+    requires place { at < 4294967296 }
+{
     let Ok(raw) = Raw::new(alloc, file) else {
-        return Ok(false);
+        return Err(Fault::NoRow);
     };
     let numbers = numbers(alloc, raw.strings())?;
     if numbers.len() != raw.strings() as usize {
-        return Ok(false);
+        return Err(Fault::NoRow);
     }
-    let names = Named::new(&raw, numbers.as_slice());
-    match said(alloc, &names, place)? {
-        Some(text) => println!(rt; "{title}: {text}")?,
-        None => return Ok(false),
-    }
-    Ok(true)
+    add_said(told, alloc, &Named::new(&raw, numbers.as_slice()), at)
 }
 
 /// The names from 100 on.
@@ -45,33 +35,34 @@ fn numbers(alloc: Global, count: u32) -> Result<Vec<NameNo>, AllocError> {
     Ok(numbers)
 }
 
-/// Whether the index of each instruction of a code item is in range.
-fn has_indices(alloc: Global, file: &[u8], at: usize) -> Result<bool, AllocError>
+/// Adds the code of a code item as it prints, where its rules hold.
+fn add_said(told: &mut Told, alloc: Global, names: &Named<'_>, at: usize) -> Result<(), Fault>
+    requires { at < 4294967296 }
+{
+    let file = names.raw().file();
+    if !lies(file, at) {
+        return Err(Fault::NoRow);
+    }
+    if handlers(alloc, file, at)?.is_none() {
+        return Err(Fault::NoRow);
+    }
+    need_indices(alloc, file, at)?;
+    told.debug(&code(alloc, names, at)?)
+}
+
+/// Refuses a code item of which the index of an instruction is out of range.
+fn need_indices(alloc: Global, file: &[u8], at: usize) -> Result<(), Fault>
     requires header { 112 ≤ length file.now }
     requires lies { code_lies file.now at ≡ true }
-    ensures { IfOk result (λ has. IsTrue has → first_insn (λ _ i. index_holds file.now i.body) (code_walk file.now at).pieces ≡ None) }
+    ensures { OnOk result (first_insn (λ _ i. index_holds file.now i.body) (code_walk file.now at).pieces ≡ None) }
 {
     let units = units(alloc, file, at)?;
     if units.len() > 16777216 {
-        return Ok(false);
+        return Err(Fault::NoRow);
     }
     let walk = walk(alloc, units.as_slice())?;
-    Ok(broken_index(file, &walk).is_none())
-}
-
-/// The code of a code item as it prints, where its rules hold.
-fn said(alloc: Global, names: &Named<'_>, place: u32) -> Result<Option<String>, AllocError> {
-    let file = names.raw().file();
-    let at = place as usize;
-    if !lies(file, at) {
-        return Ok(None);
+    match broken_index(file, &walk) {
+        None => Ok(()),
+        Some(_) => Err(Fault::NoRow),
     }
-    let Some(_lists) = handlers(alloc, file, at)? else {
-        return Ok(None);
-    };
-    if !has_indices(alloc, file, at)? {
-        return Ok(None);
-    }
-    let code = code(alloc, names, at)?;
-    Ok(Some(format!(in alloc; "{code:?}")?))
 }

@@ -6,10 +6,11 @@
 //   zeros COUNT           so many zeros behind the last file
 //   fill COUNT HEX        so many times these bytes behind it
 //   length, sign, sum     the last file says its length; its signature is made anew; its checksum is
-use crate::words::{bytes_of, word_of};
+use crate::fault::Fault;
+use crate::words::{bytes_of, copies, copies_of, halves, word_of};
 use sha1::Sha1;
-use std::alloc::{AllocError, Global};
-use std::{fs, io};
+use std::alloc::Global;
+use std::fs;
 
 /// A content by its name.
 #[derive(Drop)]
@@ -18,105 +19,88 @@ pub struct Named {
     pub bytes: Vec<u8>,
 }
 
-/// Follows a row on files. The answer is whether it was one.
+/// Follows a row on files.
 pub fn follow_file(
     rt: &HostRuntime,
     files: &mut Vec<Named>,
     verb: &str,
     rest: &str,
-) -> io::Result<bool> {
+) -> Result<(), Fault> {
     if verb == "file" {
         return add_file(rt, files, rest);
     }
-    let Some(file) = files.last_mut() else {
-        return Ok(false);
-    };
-    Ok(alter(rt.alloc(), &mut file.bytes, verb, rest)?)
+    match files.last_mut() {
+        Some(file) => alter(rt.alloc(), &mut file.bytes, verb, rest),
+        None => Err(Fault::NoRow),
+    }
 }
 
 /// Adds a file with the bytes of one in data/.
-fn add_file(rt: &HostRuntime, files: &mut Vec<Named>, rest: &str) -> io::Result<bool> {
+fn add_file(rt: &HostRuntime, files: &mut Vec<Named>, rest: &str) -> Result<(), Fault> {
     let alloc = rt.alloc();
-    let Some((name, source)) = rest.split_once(' ') else {
-        return Ok(false);
-    };
-    let Some(name) = word_of(alloc, name)? else {
-        return Ok(false);
-    };
+    let (name, source) = halves(rest)?;
+    let name = word_of(alloc, name)?;
     let bytes = match source {
         "-" => Vec::new(alloc),
         _ => fs::read(rt, source)?,
     };
     files.push(Named { name, bytes })?;
-    Ok(true)
+    Ok(())
 }
 
-fn alter(alloc: Global, file: &mut Vec<u8>, verb: &str, rest: &str) -> Result<bool, AllocError> {
+fn alter(alloc: Global, file: &mut Vec<u8>, verb: &str, rest: &str) -> Result<(), Fault> {
     match verb {
         "put" => put(alloc, file, rest),
-        "cut" => Ok(cut(file, rest)),
-        "zeros" => add_zeros(file, rest),
-        "fill" => fill(alloc, file, rest),
-        "length" => say_length(file),
-        "sign" => sign(file),
-        "sum" => sum(file),
-        _ => Ok(false),
-    }
-}
-
-fn put(alloc: Global, file: &mut Vec<u8>, rest: &str) -> Result<bool, AllocError> {
-    let Some((place, digits)) = rest.split_once(' ') else {
-        return Ok(false);
-    };
-    let Ok(place) = place.parse::<usize>() else {
-        return Ok(false);
-    };
-    match bytes_of(alloc, digits)? {
-        Some(bytes) => write_over(file, place, bytes.as_slice()),
-        None => Ok(false),
-    }
-}
-
-fn cut(file: &mut Vec<u8>, rest: &str) -> bool {
-    match rest.parse::<usize>() {
-        Ok(length) if length <= file.len() => {
-            file.truncate(length);
-            true
+        "cut" => cut(file, rest),
+        "zeros" => {
+            let zeros = copies(alloc, rest.parse::<u64>()?, &[0])?;
+            add(file, zeros.as_slice())
         }
-        _ => false,
+        "fill" => {
+            let bytes = copies_of(alloc, rest)?;
+            add(file, bytes.as_slice())
+        }
+        "length" => {
+            let length = u32::try_from(file.len())?;
+            write_over(file, 32, &length.to_le_bytes())
+        }
+        "sign" => {
+            let digest = Sha1::digest(behind(file.as_slice(), 32)?);
+            write_over(file, 12, &digest)
+        }
+        "sum" => {
+            let sum = adler32(behind(file.as_slice(), 12)?);
+            write_over(file, 8, &sum.to_le_bytes())
+        }
+        _ => Err(Fault::NoRow),
     }
 }
 
-fn add_zeros(file: &mut Vec<u8>, rest: &str) -> Result<bool, AllocError> {
-    let Ok(count) = rest.parse::<usize>() else {
-        return Ok(false);
-    };
-    for _ in 0..count {
-        file.push(0)?;
-    }
-    Ok(true)
+fn put(alloc: Global, file: &mut Vec<u8>, rest: &str) -> Result<(), Fault> {
+    let (place, digits) = halves(rest)?;
+    let place = place.parse::<usize>()?;
+    let bytes = bytes_of(alloc, digits)?;
+    write_over(file, place, bytes.as_slice())
 }
 
-fn fill(alloc: Global, file: &mut Vec<u8>, rest: &str) -> Result<bool, AllocError> {
-    let Some((count, digits)) = rest.split_once(' ') else {
-        return Ok(false);
-    };
-    let Ok(count) = count.parse::<usize>() else {
-        return Ok(false);
-    };
-    let Some(bytes) = bytes_of(alloc, digits)? else {
-        return Ok(false);
-    };
-    for _ in 0..count {
-        file.extend_from_slice(bytes.as_slice())?;
+fn cut(file: &mut Vec<u8>, rest: &str) -> Result<(), Fault> {
+    let length = rest.parse::<usize>()?;
+    if length > file.len() {
+        return Err(Fault::NoRow);
     }
-    Ok(true)
+    file.truncate(length);
+    Ok(())
+}
+
+fn add(file: &mut Vec<u8>, bytes: &[u8]) -> Result<(), Fault> {
+    file.extend_from_slice(bytes)?;
+    Ok(())
 }
 
 /// Writes bytes over those from a place on. No place past the end is taken.
-fn write_over(file: &mut Vec<u8>, at: usize, bytes: &[u8]) -> Result<bool, AllocError> {
+fn write_over(file: &mut Vec<u8>, at: usize, bytes: &[u8]) -> Result<(), Fault> {
     if at > file.len() {
-        return Ok(false);
+        return Err(Fault::NoRow);
     }
     for (behind, byte) in bytes.iter().enumerate() {
         match file.get_mut(at.wrapping_add(behind)) {
@@ -124,33 +108,15 @@ fn write_over(file: &mut Vec<u8>, at: usize, bytes: &[u8]) -> Result<bool, Alloc
             None => file.push(*byte)?,
         }
     }
-    Ok(true)
+    Ok(())
 }
 
-/// Writes the length where the file says it.
-fn say_length(file: &mut Vec<u8>) -> Result<bool, AllocError> {
-    match u32::try_from(file.len()) {
-        Ok(length) => write_over(file, 32, &length.to_le_bytes()),
-        Err(_) => Ok(false),
+/// The bytes of a file from a place on.
+fn behind(file: &[u8], place: usize) -> Result<&[u8], Fault> {
+    match file.split_at_checked(place) {
+        Some((_, rest)) => Ok(rest),
+        None => Err(Fault::NoRow),
     }
-}
-
-/// Makes the signature anew.
-fn sign(file: &mut Vec<u8>) -> Result<bool, AllocError> {
-    let Some((_, signed)) = file.as_slice().split_at_checked(32) else {
-        return Ok(false);
-    };
-    let digest = Sha1::digest(signed);
-    write_over(file, 12, &digest)
-}
-
-/// Makes the checksum anew.
-fn sum(file: &mut Vec<u8>) -> Result<bool, AllocError> {
-    let Some((_, summed)) = file.as_slice().split_at_checked(12) else {
-        return Ok(false);
-    };
-    let sum = adler32(summed).to_le_bytes();
-    write_over(file, 8, &sum)
 }
 
 /// Two sums modulo 65521.

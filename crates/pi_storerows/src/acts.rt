@@ -2,29 +2,29 @@
 // of them has these rows:
 //
 //   case ..      a new store
-//   tell TITLE   tells the answers of the acts since the last such row, under this title
+//   tell         tells the answers of the acts since the last such row
 //
 // An act whose condition is not met is not made, and its answer is `none`.
+use pi_rows::fault::Fault;
 use pi_rows::follow::Subject;
-use pi_rows::spell::add_digits;
+use pi_rows::told::Told;
 use sha1::Sha1;
-use std::alloc::{AllocError, Global};
-use std::io;
+use std::alloc::Global;
 
 /// What acts are made on.
 pub trait Store {
     /// A new one, as the words of a case say.
-    fn of_case(alloc: Global, rest: &str) -> Result<Option<Self>, AllocError>;
+    fn of_case(alloc: Global, rest: &str) -> Result<Self, Fault>;
 
-    /// Makes an act. No answer where the row is none.
-    fn act(&mut self, alloc: Global, verb: &str, rest: &str) -> Result<Option<Answer>, AllocError>;
+    /// Makes an act.
+    fn act(&mut self, alloc: Global, verb: &str, rest: &str) -> Result<Answer, Fault>;
 }
 
 /// A store as the acts have left it, with what they answered.
 #[derive(Drop)]
 pub struct Acts<S> {
     store: Option<S>,
-    answers: Answers,
+    answers: Told,
 }
 
 impl<S: Store + Drop> Acts<S> {
@@ -32,39 +32,44 @@ impl<S: Store + Drop> Acts<S> {
     pub fn new(alloc: Global) -> Acts<S> {
         Acts {
             store: None,
-            answers: Answers::new(alloc),
+            answers: Told::new(alloc),
         }
     }
 
-    /// Begins anew. The answer is whether the row says how.
-    fn begin(&mut self, alloc: Global, rest: &str) -> Result<bool, AllocError> {
-        self.store = S::of_case(alloc, rest)?;
-        Ok(self.store.is_some())
-    }
-
-    /// Makes an act. The answer is whether the row was one.
-    fn make(&mut self, alloc: Global, verb: &str, rest: &str) -> Result<bool, AllocError> {
+    /// Makes an act, and keeps its answer.
+    fn make(&mut self, alloc: Global, verb: &str, rest: &str) -> Result<(), Fault> {
         let Some(store) = self.store.as_mut() else {
-            return Ok(false);
+            return Err(Fault::NoRow);
         };
-        let Some(answer) = store.act(alloc, verb, rest)? else {
-            return Ok(false);
-        };
-        self.answers.add(alloc, &answer)?;
-        Ok(true)
+        let answer = store.act(alloc, verb, rest)?;
+        if self.answers.is_begun() {
+            self.answers.words(" ")?;
+        }
+        add_answer(&mut self.answers, &answer)
     }
 }
 
 impl<S: Store + Drop> Subject for Acts<S> {
-    fn follow(&mut self, rt: &HostRuntime, verb: &str, rest: &str) -> io::Result<bool> {
+    fn follow(
+        &mut self,
+        rt: &HostRuntime,
+        verb: &str,
+        rest: &str,
+        told: &mut Told,
+    ) -> Result<(), Fault> {
         let alloc = rt.alloc();
         match verb {
-            "case" => Ok(self.begin(alloc, rest)?),
-            "tell" => {
-                self.answers.tell(rt, rest)?;
-                Ok(true)
+            "case" => {
+                self.store = None;
+                self.store = Some(S::of_case(alloc, rest)?);
+                Ok(())
             }
-            _ => Ok(self.make(alloc, verb, rest)?),
+            "tell" => {
+                told.words(self.answers.as_str())?;
+                self.answers = Told::new(alloc);
+                Ok(())
+            }
+            _ => self.make(alloc, verb, rest),
         }
     }
 }
@@ -86,50 +91,19 @@ pub enum Answer {
     Text(String),
 }
 
-/// The answers that are not yet told.
-#[derive(Drop)]
-struct Answers {
-    words: String,
-}
-
-impl Answers {
-    fn new(alloc: Global) -> Answers {
-        Answers {
-            words: String::new(alloc),
-        }
-    }
-
-    fn add(&mut self, alloc: Global, answer: &Answer) -> Result<(), AllocError> {
-        self.words.push_str(" ")?;
-        add_answer(&mut self.words, alloc, answer)
-    }
-
-    /// Tells the answers, and forgets them.
-    fn tell(&mut self, rt: &HostRuntime, title: &str) -> io::Result<()> {
-        let words = self.words.as_str();
-        println!(rt; "{title}:{words}")?;
-        self.words.clear();
-        Ok(())
-    }
-}
-
-fn add_answer(line: &mut String, alloc: Global, answer: &Answer) -> Result<(), AllocError> {
+fn add_answer(told: &mut Told, answer: &Answer) -> Result<(), Fault> {
     match answer {
-        Answer::Done => line.push_str("done"),
-        Answer::Unmet => line.push_str("none"),
-        Answer::Full => line.push_str("full"),
-        Answer::Truth(true) => line.push_str("yes"),
-        Answer::Truth(false) | Answer::Found(None) => line.push_str("no"),
-        Answer::Found(Some(number)) => add_number(line, alloc, u64::from(*number)),
-        Answer::Number(number) => add_number(line, alloc, *number),
-        Answer::Bytes(bytes) if bytes.is_empty() => line.push_str("-"),
-        Answer::Bytes(bytes) => add_digits(line, alloc, bytes.as_slice()),
-        Answer::Text(text) => line.push_str(text.as_str()),
+        Answer::Done => told.words("done"),
+        Answer::Unmet => told.words("none"),
+        Answer::Full => told.words("full"),
+        Answer::Truth(true) => told.words("yes"),
+        Answer::Truth(false) | Answer::Found(None) => told.words("no"),
+        Answer::Found(Some(number)) => told.value(number),
+        Answer::Number(number) => told.value(number),
+        Answer::Bytes(bytes) if bytes.is_empty() => told.words("-"),
+        Answer::Bytes(bytes) => told.digits(bytes.as_slice()),
+        Answer::Text(text) => told.words(text.as_str()),
     }
-}
-
-fn add_number(line: &mut String, alloc: Global, number: u64) -> Result<(), AllocError> {
-    line.push_str(format!(in alloc; "{number}")?.as_str())
 }
 
 /// What tells whether an act was made.
@@ -141,26 +115,20 @@ pub fn made(was_made: bool) -> Answer {
     }
 }
 
+/// A number, where the condition of its act is met.
+pub fn found_or_unmet(number: Option<u32>) -> Answer {
+    match number {
+        Some(number) => Answer::Found(Some(number)),
+        None => Answer::Unmet,
+    }
+}
+
 /// The digest of many bytes as an answer.
-pub fn digest(alloc: Global, bytes: &[u8]) -> Result<Answer, AllocError> {
+pub fn digest(alloc: Global, bytes: &[u8]) -> Result<Answer, Fault> {
     Ok(Answer::Bytes(Vec::from_slice(alloc, &Sha1::digest(bytes))?))
 }
 
-/// Bytes so many times behind each other.
-pub fn repeated(alloc: Global, times: u64, bytes: &[u8]) -> Result<Vec<u8>, AllocError> {
-    let mut all = Vec::new(alloc);
-    for _ in 0..times {
-        all.extend_from_slice(bytes)?;
-    }
-    Ok(all)
-}
-
 /// A number of a row that is to be a word.
-pub fn word(number: u64) -> Option<u32> {
-    u32::try_from(number).ok()
-}
-
-/// The number of a row that has no other.
-pub fn size_of(rest: &str) -> Option<u32> {
-    rest.parse::<u32>().ok()
+pub fn word(number: u64) -> Result<u32, Fault> {
+    Ok(u32::try_from(number)?)
 }

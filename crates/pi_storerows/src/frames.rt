@@ -14,9 +14,10 @@
 ghost use Rattle.std.specs.Prelude.{◌≡◌};
 ghost use Rattle.pi_storerows.specs.Counted.{registers};
 
-use crate::acts::{Answer, Store, made, size_of, word};
+use crate::acts::{Answer, Store, found_or_unmet, made, word};
 use pi_frames::Frames;
 use pi_model::numbers::MethodNo;
+use pi_rows::fault::Fault;
 use pi_rows::words::numbers_of;
 use std::alloc::{AllocError, Global};
 use std::collections::VecDeque;
@@ -100,69 +101,28 @@ impl Counted {
 }
 
 impl Store for Counted {
-    fn of_case(alloc: Global, rest: &str) -> Result<Option<Self>, AllocError> {
-        match size_of(rest) {
-            Some(words) => Ok(Some(Counted::new(alloc, words)?)),
-            None => Ok(None),
+    fn of_case(alloc: Global, rest: &str) -> Result<Self, Fault> {
+        Ok(Counted::new(alloc, rest.parse::<u32>()?)?)
+    }
+
+    fn act(&mut self, alloc: Global, verb: &str, rest: &str) -> Result<Answer, Fault> {
+        let numbers = numbers_of::<u64>(alloc, rest)?;
+        match (verb, numbers.as_slice()) {
+            ("push", [method, registers]) => push(self, word(*method)?, *registers),
+            ("pop", []) => Ok(made(self.pop())),
+            ("reg", [register]) => Ok(found_or_unmet(self.register(u16::try_from(*register)?))),
+            ("set", [register, value]) => {
+                Ok(made(self.set(u16::try_from(*register)?, word(*value)?)))
+            }
+            ("pc", []) => Ok(found_or_unmet(self.pc())),
+            ("method", []) => Ok(found_or_unmet(self.method())),
+            ("go", [pc]) => Ok(made(self.go(word(*pc)?))),
+            ("depth", []) => Ok(Answer::Found(Some(self.frames.depth()))),
+            _ => Err(Fault::NoRow),
         }
     }
-
-    fn act(&mut self, alloc: Global, verb: &str, rest: &str) -> Result<Option<Answer>, AllocError> {
-        match numbers_of(alloc, rest)? {
-            Some(numbers) => act_on(self, verb, numbers.as_slice()),
-            None => Ok(None),
-        }
-    }
 }
 
-fn act_on(frames: &mut Counted, verb: &str, numbers: &[u64]) -> Result<Option<Answer>, AllocError> {
-    match numbers {
-        [] => Ok(act_alone(frames, verb)),
-        [number] => Ok(act_on_one(frames, verb, *number)),
-        [method, registers] if verb == "push" => push(frames, *method, *registers),
-        [register, value] if verb == "set" => Ok(set(frames, *register, *value)),
-        _ => Ok(None),
-    }
-}
-
-fn push(frames: &mut Counted, method: u64, registers: u64) -> Result<Option<Answer>, AllocError> {
-    match (u32::try_from(method), u16::try_from(registers)) {
-        (Ok(method), Ok(registers)) => Ok(Some(frames.push(MethodNo(method), registers)?)),
-        _ => Ok(None),
-    }
-}
-
-/// Acts of no number.
-fn act_alone(frames: &mut Counted, verb: &str) -> Option<Answer> {
-    match verb {
-        "pop" => Some(made(frames.pop())),
-        "pc" => Some(word_or_unmet(frames.pc())),
-        "method" => Some(word_or_unmet(frames.method())),
-        "depth" => Some(Answer::Found(Some(frames.frames.depth()))),
-        _ => None,
-    }
-}
-
-/// Acts of one number.
-fn act_on_one(frames: &mut Counted, verb: &str, number: u64) -> Option<Answer> {
-    match verb {
-        "reg" => Some(word_or_unmet(frames.register(register_no(number)?))),
-        "go" => Some(made(frames.go(word(number)?))),
-        _ => None,
-    }
-}
-
-fn set(frames: &mut Counted, register: u64, value: u64) -> Option<Answer> {
-    Some(made(frames.set(register_no(register)?, word(value)?)))
-}
-
-fn register_no(number: u64) -> Option<u16> {
-    u16::try_from(number).ok()
-}
-
-fn word_or_unmet(word: Option<u32>) -> Answer {
-    match word {
-        Some(word) => Answer::Found(Some(word)),
-        None => Answer::Unmet,
-    }
+fn push(frames: &mut Counted, method: u32, registers: u64) -> Result<Answer, Fault> {
+    Ok(frames.push(MethodNo(method), u16::try_from(registers)?)?)
 }

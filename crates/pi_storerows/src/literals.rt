@@ -11,9 +11,10 @@
 //   case NAMES                empty slots for so many names
 ghost use Rattle.std.specs.Prelude.{◌≡◌, is_some, length};
 
-use crate::acts::{Answer, Store, made, size_of, word};
+use crate::acts::{Answer, Store, made, word};
 use pi_intern::Literals;
 use pi_model::numbers::{Addr, NameNo};
+use pi_rows::fault::Fault;
 use pi_rows::words::numbers_of;
 use std::alloc::{AllocError, Global};
 
@@ -61,63 +62,39 @@ impl Watched {
         true
     }
 
-    fn commit(&mut self) -> bool {
+    /// Ends the transaction if there is one.
+    fn finish(&mut self, keeps: bool) -> bool {
         if !self.pending {
             return false;
         }
-        self.literals.commit();
-        self.pending = false;
-        true
-    }
-
-    fn abort(&mut self) -> bool {
-        if !self.pending {
-            return false;
+        if keeps {
+            self.literals.commit();
+        } else {
+            self.literals.abort();
         }
-        self.literals.abort();
         self.pending = false;
         true
     }
 }
 
 impl Store for Watched {
-    fn of_case(alloc: Global, rest: &str) -> Result<Option<Self>, AllocError> {
-        match size_of(rest) {
-            Some(names) => Ok(Some(Watched::new(alloc, names)?)),
-            None => Ok(None),
-        }
+    fn of_case(alloc: Global, rest: &str) -> Result<Self, Fault> {
+        Ok(Watched::new(alloc, rest.parse::<u32>()?)?)
     }
 
-    fn act(&mut self, alloc: Global, verb: &str, rest: &str) -> Result<Option<Answer>, AllocError> {
-        match numbers_of(alloc, rest)? {
-            Some(numbers) => Ok(act_on(self, verb, numbers.as_slice())),
-            None => Ok(None),
+    fn act(&mut self, alloc: Global, verb: &str, rest: &str) -> Result<Answer, Fault> {
+        let numbers = numbers_of::<u64>(alloc, rest)?;
+        match (verb, numbers.as_slice()) {
+            ("set", [name, at]) => Ok(made(self.set(word(*name)?, word(*at)?))),
+            ("fill", [from, count, at]) => fill(self, word(*from)?, *count, word(*at)?),
+            ("addr", [name]) => Ok(addr(self, word(*name)?)),
+            ("begin", []) => Ok(made(self.begin())),
+            ("commit", []) => Ok(made(self.finish(true))),
+            ("abort", []) => Ok(made(self.finish(false))),
+            ("filled", []) => Ok(Answer::Number(filled(self))),
+            ("sum", []) => Ok(Answer::Number(sum(self))),
+            _ => Err(Fault::NoRow),
         }
-    }
-}
-
-fn act_on(slots: &mut Watched, verb: &str, numbers: &[u64]) -> Option<Answer> {
-    match numbers {
-        [] => act_alone(slots, verb),
-        [name] if verb == "addr" => Some(addr(slots, word(*name)?)),
-        [name, at] if verb == "set" => Some(made(slots.set(word(*name)?, word(*at)?))),
-        [from, count, at] if verb == "fill" => {
-            let count = fill(slots, word(*from)?, *count, word(*at)?);
-            Some(Answer::Number(count))
-        }
-        _ => None,
-    }
-}
-
-/// Acts of no number.
-fn act_alone(slots: &mut Watched, verb: &str) -> Option<Answer> {
-    match verb {
-        "begin" => Some(made(slots.begin())),
-        "commit" => Some(made(slots.commit())),
-        "abort" => Some(made(slots.abort())),
-        "filled" => Some(Answer::Number(filled(slots))),
-        "sum" => Some(Answer::Number(sum(slots))),
-        _ => None,
     }
 }
 
@@ -129,7 +106,7 @@ fn addr(slots: &Watched, name: u32) -> Answer {
     }
 }
 
-fn fill(slots: &mut Watched, from: u32, count: u64, at: u32) -> u64 {
+fn fill(slots: &mut Watched, from: u32, count: u64, at: u32) -> Result<Answer, Fault> {
     let mut made: u64 = 0;
     let (mut name, mut address) = (from, at);
     for _ in 0..count {
@@ -139,7 +116,7 @@ fn fill(slots: &mut Watched, from: u32, count: u64, at: u32) -> u64 {
         name = name.wrapping_add(1);
         address = address.wrapping_add(1);
     }
-    made
+    Ok(Answer::Number(made))
 }
 
 fn filled(slots: &Watched) -> u64 {

@@ -18,24 +18,17 @@
 ghost use Rattle.std.specs.Prelude.{◌<◌, length, IsTrue};
 ghost use Rattle.pi_memory.specs.Memory.{holder, IsBelow, IsOn};
 
-use crate::acts::{Answer, Store, digest, made, repeated, word};
+use crate::acts::{Answer, Store, digest, made, word};
 use pi_memory::memory::Memory;
 use pi_model::numbers::{Addr, SpaceNo};
-use pi_rows::words::{bytes_of, numbers_of};
-use std::alloc::{AllocError, Global};
+use pi_rows::fault::Fault;
+use pi_rows::words::{bytes_of, copies, numbers_of};
+use std::alloc::Global;
 
 /// The memory that the acts have made.
 #[derive(Drop)]
 pub struct Spaces {
     memory: Memory<'static>,
-}
-
-/// A space that is to be.
-#[derive(Drop)]
-struct Room {
-    base: u32,
-    end: u32,
-    bytes: Vec<u8>,
 }
 
 /// An address of a space.
@@ -47,60 +40,40 @@ enum Bound {
 }
 
 impl Store for Spaces {
-    fn of_case(alloc: Global, rest: &str) -> Result<Option<Self>, AllocError> {
+    fn of_case(alloc: Global, rest: &str) -> Result<Self, Fault> {
         if !rest.is_empty() {
-            return Ok(None);
+            return Err(Fault::NoRow);
         }
-        Ok(Some(Spaces {
+        Ok(Spaces {
             memory: Memory::new(alloc),
-        }))
+        })
     }
 
-    fn act(&mut self, alloc: Global, verb: &str, rest: &str) -> Result<Option<Answer>, AllocError> {
+    fn act(&mut self, alloc: Global, verb: &str, rest: &str) -> Result<Answer, Fault> {
         if verb == "add" {
             return add_row(&mut self.memory, alloc, rest);
         }
-        let Some(numbers) = numbers_of(alloc, rest)? else {
-            return Ok(None);
-        };
+        let numbers = numbers_of::<u64>(alloc, rest)?;
         match numbers.as_slice() {
-            [] => Ok(act_alone(&mut self.memory, verb)),
+            [] => act_alone(&mut self.memory, verb),
             [space] => act_on_space(&mut self.memory, alloc, verb, *space),
-            [first, second] => Ok(act_on_two(&mut self.memory, verb, *first, *second)),
-            longer => Ok(act_on_more(&mut self.memory, verb, longer)),
+            [space, count] if verb == "bump" => bump(&mut self.memory, space_no(*space)?, *count),
+            [first, second] => look(&self.memory, verb, word(*first)?, word(*second)?),
+            longer => act_on_more(&mut self.memory, verb, longer),
         }
     }
 }
 
 /// Adds the space of a row.
-fn add_row(memory: &mut Memory, alloc: Global, rest: &str) -> Result<Option<Answer>, AllocError> {
-    match room_of(alloc, rest)? {
-        Some(room) => Ok(Some(add(memory, alloc, room.base, room.end, room.bytes.as_slice())?)),
-        None => Ok(None),
-    }
-}
-
-/// The space of a row. None where the row says none.
-fn room_of(alloc: Global, rest: &str) -> Result<Option<Room>, AllocError> {
-    let Some((places, digits)) = rest.rsplit_once(' ') else {
-        return Ok(None);
-    };
-    match (numbers_of(alloc, places)?, bytes_of(alloc, digits)?) {
-        (Some(numbers), Some(piece)) => repeat_in(alloc, numbers.as_slice(), piece.as_slice()),
-        _ => Ok(None),
-    }
-}
-
-fn repeat_in(alloc: Global, numbers: &[u64], piece: &[u8]) -> Result<Option<Room>, AllocError> {
-    let [base, end, times] = numbers else {
-        return Ok(None);
-    };
-    match (word(*base), word(*end)) {
-        (Some(base), Some(end)) => {
-            let bytes = repeated(alloc, *times, piece)?;
-            Ok(Some(Room { base, end, bytes }))
+fn add_row(memory: &mut Memory, alloc: Global, rest: &str) -> Result<Answer, Fault> {
+    let (places, digits) = rest.rsplit_once(' ').ok_or(Fault::NoRow)?;
+    let piece = bytes_of(alloc, digits)?;
+    match numbers_of::<u64>(alloc, places)?.as_slice() {
+        [base, end, times] => {
+            let bytes = copies(alloc, *times, piece.as_slice())?;
+            add(memory, alloc, word(*base)?, word(*end)?, bytes.as_slice())
         }
-        _ => Ok(None),
+        _ => Err(Fault::NoRow),
     }
 }
 
@@ -111,7 +84,7 @@ fn add(
     base: u32,
     end: u32,
     bytes: &[u8],
-) -> Result<Answer, AllocError> {
+) -> Result<Answer, Fault> {
     if memory.pending().is_some() || memory.spaces() >= 9 {
         return Ok(Answer::Unmet);
     }
@@ -127,13 +100,13 @@ fn add(
 }
 
 /// Acts of no number.
-fn act_alone(memory: &mut Memory, verb: &str) -> Option<Answer> {
+fn act_alone(memory: &mut Memory, verb: &str) -> Result<Answer, Fault> {
     match verb {
-        "commit" => Some(finish(memory, true)),
-        "abort" => Some(finish(memory, false)),
-        "spaces" => Some(Answer::Number(u64::from(memory.spaces()))),
-        "pending" => Some(space_or_no(memory.pending())),
-        _ => None,
+        "commit" => Ok(finish(memory, true)),
+        "abort" => Ok(finish(memory, false)),
+        "spaces" => Ok(Answer::Number(u64::from(memory.spaces()))),
+        "pending" => Ok(space_or_no(memory.pending())),
+        _ => Err(Fault::NoRow),
     }
 }
 
@@ -143,52 +116,45 @@ fn act_on_space(
     alloc: Global,
     verb: &str,
     number: u64,
-) -> Result<Option<Answer>, AllocError> {
-    let Some(space) = space_no(number) else {
-        return Ok(None);
-    };
+) -> Result<Answer, Fault> {
+    let space = space_no(number)?;
     match verb {
-        "base" => Ok(Some(bound_of(memory, space, Bound::Base))),
-        "mark" => Ok(Some(bound_of(memory, space, Bound::Mark))),
-        "end" => Ok(Some(bound_of(memory, space, Bound::End))),
-        "begin" => Ok(Some(begin(memory, alloc, space)?)),
-        "bytes" => Ok(Some(content(memory, alloc, space)?)),
-        "digest" => Ok(Some(content_digest(memory, alloc, space)?)),
-        _ => Ok(None),
+        "base" => Ok(bound_of(memory, space, Bound::Base)),
+        "mark" => Ok(bound_of(memory, space, Bound::Mark)),
+        "end" => Ok(bound_of(memory, space, Bound::End)),
+        "begin" => begin(memory, alloc, space),
+        "bytes" => content(memory, alloc, space),
+        "digest" => match content(memory, alloc, space)? {
+            Answer::Bytes(bytes) => digest(alloc, bytes.as_slice()),
+            other => Ok(other),
+        },
+        _ => Err(Fault::NoRow),
     }
 }
 
-/// Acts of two numbers.
-fn act_on_two(memory: &mut Memory, verb: &str, first: u64, second: u64) -> Option<Answer> {
-    if verb == "bump" {
-        return Some(bump(memory, space_no(first)?, second));
-    }
-    look(memory, verb, word(first)?, word(second)?)
-}
-
-fn look(memory: &Memory, verb: &str, first: u32, second: u32) -> Option<Answer> {
+fn look(memory: &Memory, verb: &str, first: u32, second: u32) -> Result<Answer, Fault> {
     match verb {
         "read" => match read(memory, first, second) {
-            Some(number) => Some(Answer::Number(number)),
-            None => Some(Answer::Unmet),
+            Some(number) => Ok(Answer::Number(number)),
+            None => Ok(Answer::Unmet),
         },
-        "free" => Some(Answer::Truth(memory.is_free(Addr(first), Addr(second)))),
-        "find" => Some(space_or_no(memory.space_of(Addr(first), second))),
-        _ => None,
+        "free" => Ok(Answer::Truth(memory.is_free(Addr(first), Addr(second)))),
+        "find" => Ok(space_or_no(memory.space_of(Addr(first), second))),
+        _ => Err(Fault::NoRow),
     }
 }
 
 /// Writes.
-fn act_on_more(memory: &mut Memory, verb: &str, numbers: &[u64]) -> Option<Answer> {
-    match numbers {
-        [width, at, number] if verb == "write" => {
-            Some(made(write(memory, word(*width)?, word(*at)?, *number)))
+fn act_on_more(memory: &mut Memory, verb: &str, numbers: &[u64]) -> Result<Answer, Fault> {
+    match (verb, numbers) {
+        ("write", [width, at, number]) => {
+            Ok(made(write(memory, word(*width)?, word(*at)?, *number)))
         }
-        [width, at, times, number] if verb == "sweep" => {
+        ("sweep", [width, at, times, number]) => {
             let count = sweep(memory, word(*width)?, word(*at)?, *times, *number);
-            Some(Answer::Number(count))
+            Ok(Answer::Number(count))
         }
-        _ => None,
+        _ => Err(Fault::NoRow),
     }
 }
 
@@ -255,21 +221,21 @@ fn read(memory: &Memory, width: u32, at: u32) -> Option<u64> {
     }
 }
 
-fn bump(memory: &mut Memory, space: SpaceNo, count: u64) -> Answer {
+fn bump(memory: &mut Memory, space: SpaceNo, count: u64) -> Result<Answer, Fault> {
     let may = match memory.pending() {
         Some(on) => on == space,
         None => true,
     };
     if space.0 >= memory.spaces() || count % 8 != 0 || !may {
-        return Answer::Unmet;
+        return Ok(Answer::Unmet);
     }
     match memory.bump(space, count) {
-        Some(at) => Answer::Found(Some(at.0)),
-        None => Answer::Full,
+        Some(at) => Ok(Answer::Found(Some(at.0))),
+        None => Ok(Answer::Full),
     }
 }
 
-fn begin(memory: &mut Memory, alloc: Global, space: SpaceNo) -> Result<Answer, AllocError> {
+fn begin(memory: &mut Memory, alloc: Global, space: SpaceNo) -> Result<Answer, Fault> {
     if space.0 >= memory.spaces() || memory.pending().is_some() {
         return Ok(Answer::Unmet);
     }
@@ -290,22 +256,15 @@ fn finish(memory: &mut Memory, keeps: bool) -> Answer {
     Answer::Done
 }
 
-fn content(memory: &Memory, alloc: Global, space: SpaceNo) -> Result<Answer, AllocError> {
+fn content(memory: &Memory, alloc: Global, space: SpaceNo) -> Result<Answer, Fault> {
     if space.0 >= memory.spaces() {
         return Ok(Answer::Unmet);
     }
     Ok(Answer::Bytes(bytes_in(memory, alloc, space)?))
 }
 
-fn content_digest(memory: &Memory, alloc: Global, space: SpaceNo) -> Result<Answer, AllocError> {
-    match content(memory, alloc, space)? {
-        Answer::Bytes(bytes) => digest(alloc, bytes.as_slice()),
-        other => Ok(other),
-    }
-}
-
 /// The bytes of a space, each by a read of its own.
-fn bytes_in(memory: &Memory, alloc: Global, space: SpaceNo) -> Result<Vec<u8>, AllocError>
+fn bytes_in(memory: &Memory, alloc: Global, space: SpaceNo) -> Result<Vec<u8>, Fault>
     requires { space.0 < length memory.now.spaces }
 {
     let mut bytes = Vec::new(alloc);
@@ -317,11 +276,8 @@ fn bytes_in(memory: &Memory, alloc: Global, space: SpaceNo) -> Result<Vec<u8>, A
     Ok(bytes)
 }
 
-fn space_no(number: u64) -> Option<SpaceNo> {
-    match u8::try_from(number) {
-        Ok(number) => Some(SpaceNo(number)),
-        Err(_) => None,
-    }
+fn space_no(number: u64) -> Result<SpaceNo, Fault> {
+    Ok(SpaceNo(u8::try_from(number)?))
 }
 
 fn space_or_no(space: Option<SpaceNo>) -> Answer {

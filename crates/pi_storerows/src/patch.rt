@@ -11,10 +11,11 @@
 // and this begins anew:
 //
 //   case PLACES              a map of so many places, none marked, and no bytes
-use crate::acts::{Answer, Store, digest, made, repeated, size_of, word};
+use crate::acts::{Answer, Store, digest, made, word};
 use pi_reloc::{Bitmap, patch};
-use pi_rows::words::{bytes_of, numbers_of};
-use std::alloc::{AllocError, Global};
+use pi_rows::fault::Fault;
+use pi_rows::words::{copies_of, numbers_of};
+use std::alloc::Global;
 
 /// A map and bytes, as the acts have left them.
 #[derive(Drop)]
@@ -24,56 +25,35 @@ pub struct Moves {
 }
 
 impl Store for Moves {
-    fn of_case(alloc: Global, rest: &str) -> Result<Option<Self>, AllocError> {
-        match size_of(rest) {
-            Some(places) => Ok(Some(Moves {
-                map: Bitmap::new(alloc, places)?,
-                bytes: Vec::new(alloc),
-            })),
-            None => Ok(None),
-        }
+    fn of_case(alloc: Global, rest: &str) -> Result<Self, Fault> {
+        Ok(Moves {
+            map: Bitmap::new(alloc, rest.parse::<u32>()?)?,
+            bytes: Vec::new(alloc),
+        })
     }
 
-    fn act(&mut self, alloc: Global, verb: &str, rest: &str) -> Result<Option<Answer>, AllocError> {
+    fn act(&mut self, alloc: Global, verb: &str, rest: &str) -> Result<Answer, Fault> {
         match verb {
-            "bytes" => self.lay(alloc, rest),
-            "patch" => match rest.parse::<i64>() {
-                Ok(delta) => Ok(Some(moved(alloc, &mut self.bytes, &self.map, delta)?)),
-                Err(_) => Ok(None),
-            },
-            "shown" => Ok(Some(Answer::Bytes(self.bytes.clone()?))),
-            "digest" => Ok(Some(digest(alloc, self.bytes.as_slice())?)),
-            _ => match numbers_of(alloc, rest)? {
-                Some(numbers) => Ok(act_on_map(&mut self.map, verb, numbers.as_slice())),
-                None => Ok(None),
-            },
-        }
-    }
-}
-
-impl Moves {
-    /// Makes the bytes those of a row.
-    fn lay(&mut self, alloc: Global, rest: &str) -> Result<Option<Answer>, AllocError> {
-        let Some((times, digits)) = rest.split_once(' ') else {
-            return Ok(None);
-        };
-        match (times.parse::<u64>(), bytes_of(alloc, digits)?) {
-            (Ok(times), Some(piece)) => {
-                self.bytes = repeated(alloc, times, piece.as_slice())?;
-                Ok(Some(Answer::Done))
+            "bytes" => {
+                self.bytes = copies_of(alloc, rest)?;
+                Ok(Answer::Done)
             }
-            _ => Ok(None),
+            "patch" => {
+                let delta = rest.parse::<i64>()?;
+                moved(alloc, &mut self.bytes, &self.map, delta)
+            }
+            "shown" => Ok(Answer::Bytes(self.bytes.clone()?)),
+            "digest" => digest(alloc, self.bytes.as_slice()),
+            _ => {
+                let numbers = numbers_of::<u64>(alloc, rest)?;
+                act_on_map(&mut self.map, verb, numbers.as_slice())
+            }
         }
     }
 }
 
 /// Moves the marked words, if there are no more places than words.
-fn moved(
-    alloc: Global,
-    bytes: &mut Vec<u8>,
-    map: &Bitmap,
-    delta: i64,
-) -> Result<Answer, AllocError> {
+fn moved(alloc: Global, bytes: &mut Vec<u8>, map: &Bitmap, delta: i64) -> Result<Answer, Fault> {
     if u64::from(map.words()) * 4 > bytes.len() as u64 {
         return Ok(Answer::Unmet);
     }
@@ -83,24 +63,17 @@ fn moved(
     }
 }
 
-fn act_on_map(map: &mut Bitmap, verb: &str, numbers: &[u64]) -> Option<Answer> {
-    match numbers {
-        [] if verb == "places" => Some(Answer::Found(Some(map.words()))),
-        [] if verb == "marked" => Some(Answer::Number(marked(map))),
-        [place] => act_on_place(map, verb, word(*place)?),
-        [from, step, count] if verb == "marks" => {
+fn act_on_map(map: &mut Bitmap, verb: &str, numbers: &[u64]) -> Result<Answer, Fault> {
+    match (verb, numbers) {
+        ("places", []) => Ok(Answer::Found(Some(map.words()))),
+        ("marked", []) => Ok(Answer::Number(marked(map))),
+        ("mark", [place]) => Ok(made(mark(map, word(*place)?))),
+        ("has", [place]) => Ok(has(map, word(*place)?)),
+        ("marks", [from, step, count]) => {
             let count = marks(map, word(*from)?, word(*step)?, *count);
-            Some(Answer::Number(count))
+            Ok(Answer::Number(count))
         }
-        _ => None,
-    }
-}
-
-fn act_on_place(map: &mut Bitmap, verb: &str, place: u32) -> Option<Answer> {
-    match verb {
-        "mark" => Some(made(mark(map, place))),
-        "has" => Some(has(map, place)),
-        _ => None,
+        _ => Err(Fault::NoRow),
     }
 }
 

@@ -2,9 +2,11 @@
 ghost use Rattle.std.specs.Prelude.{OnOk};
 ghost use Rattle.pi_format.specs.Says.{HasRoom};
 
-use crate::files::Named;
 use pi_dex::{DexFault, append};
 use pi_model::prog::Prog;
+use pi_rows::fault::Fault;
+use pi_rows::files::Named;
+use pi_rows::told::Told;
 use std::alloc::Global;
 
 /// The longest file that is read.
@@ -14,14 +16,14 @@ const MOST_BYTES: usize = 16_777_216;
 const MOST_FILES: u8 = 8;
 
 /// The program of no file.
-pub fn no_files(alloc: Global) -> Prog
+pub(crate) fn no_files(alloc: Global) -> Prog
     ensures { HasRoom result }
 {
     Prog::new(alloc)
 }
 
 /// Adds a file behind a program. A ninth, and one that is longer than is read, are left out.
-pub fn add(alloc: Global, prog: &mut Prog, file: &Named) -> Result<(), DexFault>
+pub(crate) fn add(alloc: Global, prog: &mut Prog, file: &Named) -> Result<(), DexFault>
     requires { HasRoom prog.old }
     ensures { OnOk result (HasRoom prog.new) }
 {
@@ -32,7 +34,7 @@ pub fn add(alloc: Global, prog: &mut Prog, file: &Named) -> Result<(), DexFault>
 }
 
 /// Adds files behind a program, up to the first that is refused.
-pub fn add_all(alloc: Global, prog: &mut Prog, files: &[Named]) -> Result<(), DexFault>
+pub(crate) fn add_all(alloc: Global, prog: &mut Prog, files: &[Named]) -> Result<(), DexFault>
     requires { HasRoom prog.old }
 {
     for file in files {
@@ -42,8 +44,20 @@ pub fn add_all(alloc: Global, prog: &mut Prog, files: &[Named]) -> Result<(), De
 }
 
 /// The program of files.
-pub fn program(alloc: Global, files: &[Named]) -> Result<Prog, DexFault> {
+pub(crate) fn program(alloc: Global, files: &[Named]) -> Result<Prog, DexFault> {
     let mut prog = no_files(alloc);
     add_all(alloc, &mut prog, files)?;
     Ok(prog)
+}
+
+/// Adds how many of each kind a program has.
+pub(crate) fn add_sizes(told: &mut Told, prog: &Prog) -> Result<(), Fault> {
+    told.counts(&[
+        ("files", u32::from(prog.files())),
+        ("names", prog.names()),
+        ("types", prog.all_types()),
+        ("classes", prog.classes()),
+        ("fields", prog.all_fields()),
+        ("methods", prog.all_methods()),
+    ])
 }
