@@ -27,13 +27,13 @@ def written():
         out = Rows()
         subject.rows(out)
         wanted += out.wanted
-        out.data(name, '\n'.join(out.rows) + '\n')
+        out.data(name, '\n'.join(out.lines) + '\n')
         for data, content in out.files.items():
             content = content.encode() if isinstance(content, str) else content
             path = 'pi_cases/data/' + data
             assert files.get(path, content) == content, 'two subjects have another ' + data
             files[path] = content
-        print('%-12s %6d rows %6d lines' % (name, len(out.rows), len(out.wanted)))
+        print('%-12s %6d rows %6d lines' % (name, out.count, len(out.wanted)))
     files['pi_cases/stdout'] = ('\n'.join(wanted) + '\n').encode()
     print('%-12s %6s      %6d lines' % ('all', '', len(wanted)))
     return files

@@ -1,16 +1,27 @@
 """What a subject writes: rows for the program, and the lines that are wanted of it."""
 
 
+# Rows up to the next line that is wanted share a line, a tab between them, unless it would be longer than this.
+LONG = 200
+
+
 class Rows:
     def __init__(self):
-        self.rows, self.wanted, self.files = [], [], {}
+        self.lines, self.wanted, self.files = [], [], {}
+        self.count, self.is_new = 0, True
 
     def note(self, text):
         """A heading among the rows, which the program passes over."""
-        self.rows.append('# ' + text)
+        self.lines.append('# ' + text)
+        self.is_new = True
 
     def row(self, verb, *words):
-        self.rows.append(' '.join([verb] + [str(w) for w in words if str(w)]))
+        row = ' '.join([verb] + [str(w) for w in words if str(w)])
+        if self.is_new or len(self.lines[-1]) + len(row) >= LONG:
+            self.lines.append(row)
+        else:
+            self.lines[-1] += '\t' + row
+        self.count, self.is_new = self.count + 1, False
 
     def under(self, title, how=''):
         """The title of what the rows below tell, which is told by its digest or shortly where that is said."""
@@ -18,6 +29,7 @@ class Rows:
 
     def want(self, line):
         self.wanted.append(line)
+        self.is_new = True
 
     def data(self, name, content):
         """A file beside the rows."""

@@ -1,6 +1,6 @@
-// A file of rows. Each subject has its own file, and the head of its module states its rows. An empty row and one that
-// begins with # say nothing, and a row that is none is told, so that it differs from the line that is wanted. These rows
-// belong to all subjects:
+// A file of rows, one or more in a line, with a tab between them. Each subject has its own file, and the head of its module
+// states its rows. An empty row and one that begins with # say nothing, and a row that is none is told, so that it differs
+// from the line that is wanted. These rows belong to all subjects:
 //
 //   under TITLE           each line that the rows below tell stands behind this title, or alone where there is none
 //   under-digest TITLE    what a row tells is told by the number of its lines and their digest
@@ -50,8 +50,22 @@ pub fn follow_rows<S: Subject + Drop>(
         title: String::new(rt.alloc()),
         telling: Telling::Lines,
     };
-    for row in text.lines() {
-        match follow_row(rt, row, &mut heading, &mut subject) {
+    for line in text.lines() {
+        follow_line(rt, file, line, &mut heading, &mut subject)?;
+    }
+    Ok(())
+}
+
+/// Follows the rows of a line, and tells what they tell.
+fn follow_line<S: Subject>(
+    rt: &HostRuntime,
+    file: &str,
+    line: &str,
+    heading: &mut Heading,
+    subject: &mut S,
+) -> io::Result<()> {
+    for row in line.split('\t') {
+        match follow_row(rt, row, heading, subject) {
             Ok(lines) => print!(rt; "{lines}")?,
             Err(Fault::NoRow) => println!(rt; "{file}: no row: {row}")?,
             Err(Fault::Outside(kind)) => return Err(io::Error::from(kind)),
