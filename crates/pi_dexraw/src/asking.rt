@@ -1,7 +1,7 @@
 // The rules X1 to X17 one after the other. docs/dex-format.md states the order.
 
 ghost use Rattle.std.specs.Prelude.{◌≡◌, ◌≤◌, None, length, IfOk, OnOk};
-ghost use Rattle.pi_format.specs.Rules.{asked, broken_tables_rule};
+ghost use Rattle.pi_format.specs.Rules.{broken_or, broken_tables_rule};
 ghost use Rattle.pi_format.specs.Rules.Strings.{broken_strings, broken_types};
 ghost use Rattle.pi_format.specs.Tables.{count_at, string_ids};
 ghost use Rattle.pi_dexids.specs.Facts.{AreFacts};
@@ -28,7 +28,7 @@ use std::alloc::Global;
 
 /// Tells a rule that is broken.
 fn ask(rule: u8, broken: Option<u32>) -> Result<(), DexFault>
-    ensures asks { Asks (asked rule broken) result }
+    ensures asks { Asks (broken_or rule broken) result }
     ensures holds { OnOk result (broken ≡ None) }
 {
     match broken {

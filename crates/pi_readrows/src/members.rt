@@ -2,7 +2,7 @@
 ghost use Rattle.std.specs.Prelude.{◌≡◌, ◌≤◌, length};
 ghost use Rattle.pi_format.specs.Tables.{count_at, class_defs};
 ghost use Rattle.pi_format.specs.Rules.ClassData.{rows_of};
-ghost use Rattle.pi_format.specs.Rules.Lowest.{listed};
+ghost use Rattle.pi_format.specs.Rules.Lowest.{tabulation};
 
 use pi_classdata::{
     AccessFlags, ClassRows, MemberRow, RowTable, class_rows, class_values, read_rows, values_rule,
@@ -83,7 +83,7 @@ fn add_values(
     raw: &Raw<'_>,
     table: &RowTable,
 ) -> Result<(), Fault>
-    requires { table.now ≡ listed (rows_of raw.now) 0 (count_at raw.now class_defs) }
+    requires { table.now ≡ tabulation (rows_of raw.now) 0 (count_at raw.now class_defs) }
 {
     for i in 0..raw.class_defs() {
         if table.len() <= i as usize {
