@@ -48,7 +48,7 @@ impl<'a> Cursor<'a> {
     }
 
     /// The bytes from the place on.
-    fn bytes_from(&self) -> &'a [u8]
+    fn ahead(&self) -> &'a [u8]
         ensures { result.now ≡ bytes_from self.now }
     {
         self.bytes.split_at(self.at).1
@@ -77,12 +77,12 @@ impl<'a> Cursor<'a> {
         ensures stands { OnErr result (self.new ≡ self.old) }
         ensures within { self.new.at ≤ length self.new.bytes }
     {
-        let bytes_from = self.ahead();
-        if bytes_from.len() < n {
+        let ahead = self.ahead();
+        if ahead.len() < n {
             return Err(ReadFault::Short);
         }
         self.at += n;
-        Ok(bytes_from.split_at(n).0)
+        Ok(ahead.split_at(n).0)
     }
 
     /// The next byte; Short where none is left.
@@ -95,12 +95,12 @@ impl<'a> Cursor<'a> {
         ensures stands { OnErr result (self.new ≡ self.old) }
         ensures within { self.new.at ≤ length self.new.bytes }
     {
-        let bytes_from = self.ahead();
-        if bytes_from.is_empty() {
+        let ahead = self.ahead();
+        if ahead.is_empty() {
             return Err(ReadFault::Short);
         }
         self.at += 1;
-        Ok(bytes_from[0])
+        Ok(ahead[0])
     }
 
     /// The number of 16 bits in the next two bytes, low byte first; Short where fewer are left.
@@ -113,12 +113,12 @@ impl<'a> Cursor<'a> {
         ensures stands { OnErr result (self.new ≡ self.old) }
         ensures within { self.new.at ≤ length self.new.bytes }
     {
-        let bytes_from = self.ahead();
-        if bytes_from.len() < 2 {
+        let ahead = self.ahead();
+        if ahead.len() < 2 {
             return Err(ReadFault::Short);
         }
         self.at += 2;
-        Ok(LittleEndian::read_u16(bytes_from))
+        Ok(LittleEndian::read_u16(ahead))
     }
 
     /// The number of 32 bits in the next four bytes, low byte first; Short where fewer are left.
@@ -131,12 +131,12 @@ impl<'a> Cursor<'a> {
         ensures stands { OnErr result (self.new ≡ self.old) }
         ensures within { self.new.at ≤ length self.new.bytes }
     {
-        let bytes_from = self.ahead();
-        if bytes_from.len() < 4 {
+        let ahead = self.ahead();
+        if ahead.len() < 4 {
             return Err(ReadFault::Short);
         }
         self.at += 4;
-        Ok(LittleEndian::read_u32(bytes_from))
+        Ok(LittleEndian::read_u32(ahead))
     }
 
     /// The uleb128 number: seven bits a byte, low ones first, in at most five bytes, also where fewer would do.
