@@ -188,18 +188,19 @@ impl Index {
     {
         let alloc = *self.type_slots.allocator();
         let fresh = &classes[old_classes..];
-        let mut starts = starts_of(alloc, fresh, self.methods, self.fields)?;
+        let (mut method_starts, methods) = method_starts_of(alloc, fresh, self.methods)?;
+        let (mut field_starts, fields) = field_starts_of(alloc, fresh, self.fields)?;
         grow_all(
             &mut self.type_slots,
             &mut self.class_slots,
             names,
             &mut self.method_starts,
-            &mut starts.method_starts,
+            &mut method_starts,
             &mut self.field_starts,
-            &mut starts.field_starts,
+            &mut field_starts,
         )?;
-        self.methods = starts.methods;
-        self.fields = starts.fields;
+        self.methods = methods;
+        self.fields = fields;
         mark_types(self.type_slots.as_mut_slice(), types, old_types);
         mark_classes(self.class_slots.as_mut_slice(), classes, old_classes);
         Ok(())
@@ -280,44 +281,40 @@ fn mark_classes(slots: &mut [Option<u32>], classes: &[ClassDesc], from: usize)
     }
 }
 
-/// For each of some classes the numbers of its first method and its first field, and the numbers behind the last ones.
-#[derive(Drop)]
-struct Starts {
-    method_starts: Vec<u32>,
-    field_starts: Vec<u32>,
-    methods: u32,
-    fields: u32,
-}
-
-fn starts_of(
+fn method_starts_of(
     alloc: Global,
     classes: &[ClassDesc],
-    methods_before: u32,
-    fields_before: u32,
-) -> Result<Starts, AllocError>
-    requires methods { methods_before + sum_by method_count classes.now < 2 ^ 32 }
-    requires fields { fields_before + sum_by field_count classes.now < 2 ^ 32 }
-    ensures method_starts { IfOk result (λ s. s.method_starts.items ≡ starts_from method_count methods_before classes.now) }
-    ensures field_starts { IfOk result (λ s. s.field_starts.items ≡ starts_from field_count fields_before classes.now) }
-    ensures methods { IfOk result (λ s. s.methods ≡ methods_before + sum_by method_count classes.now) }
-    ensures fields { IfOk result (λ s. s.fields ≡ fields_before + sum_by field_count classes.now) }
+    before: u32,
+) -> Result<(Vec<u32>, u32), AllocError>
+    requires { before + sum_by method_count classes.now < 2 ^ 32 }
+    ensures starts { IfOk result (λ r. r.0.items ≡ starts_from method_count before classes.now) }
+    ensures total { IfOk result (λ r. r.1 ≡ before + sum_by method_count classes.now) }
 {
-    let mut method_starts = Vec::new(alloc);
-    let mut field_starts = Vec::new(alloc);
-    let mut methods = methods_before;
-    let mut fields = fields_before;
+    let mut starts = Vec::new(alloc);
+    let mut next = before;
     for class in classes {
-        method_starts.push(methods)?;
-        field_starts.push(fields)?;
-        methods += class.methods.len() as u32;
-        fields += class.fields.len() as u32;
+        starts.push(next)?;
+        next += class.methods.len() as u32;
     }
-    Ok(Starts {
-        method_starts,
-        field_starts,
-        methods,
-        fields,
-    })
+    Ok((starts, next))
+}
+
+fn field_starts_of(
+    alloc: Global,
+    classes: &[ClassDesc],
+    before: u32,
+) -> Result<(Vec<u32>, u32), AllocError>
+    requires { before + sum_by field_count classes.now < 2 ^ 32 }
+    ensures starts { IfOk result (λ r. r.0.items ≡ starts_from field_count before classes.now) }
+    ensures total { IfOk result (λ r. r.1 ≡ before + sum_by field_count classes.now) }
+{
+    let mut starts = Vec::new(alloc);
+    let mut next = before;
+    for class in classes {
+        starts.push(next)?;
+        next += class.fields.len() as u32;
+    }
+    Ok((starts, next))
 }
 
 // Halves the classes that come into question: the number is at or behind the start of the first of them, and before
