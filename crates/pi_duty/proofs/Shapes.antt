@@ -1,7 +1,7 @@
 -- A small program that a file says behind the first file has the shape that upper crates rely on.
 use Rattle.std.proofs.Common.{◌≡◌, inl, inr, ℕ, zero, suc, ◌+◌, ◌-◌, ◌<◌, ◌≤◌, ◌==◌, ◌&&◌, ◌++◌, List, [], ◌∷◌, length, map, Option, Some, None, Bool, true, false, if◌then◌else◌, refl, ap, sym, ◌∙◌, subst, arith}
 use Rattle.std.specs.Prelude.{nat_lt, nat_le, not, slice_index}
-use Rattle.std.specs.List.{list_all}
+use Rattle.std.specs.List.{list_all, All}
 use Rattle.std.proofs.lemmas.Bool.Decides.{nat_tests}
 use Rattle.std.proofs.lemmas.List.{get_or-drop}
 use Rattle.pi_model.specs.declared.numbers.NameNo.{NameNo}
@@ -30,9 +30,11 @@ use Rattle.pi_format.specs.Says.{HasRoom, SaysNext, named_file, with_said}
 use Rattle.pi_format.specs.Says.Names.{Named, new_names, texts_of}
 use Rattle.pi_format.specs.Says.Classes.{types_said, classes_said, class_desc, method_desc}
 use Rattle.pi_format.specs.Says.Codes.{code_at}
+use Rattle.pi_format.proofs.Every.{all_first}
 use Rattle.pi_machine.proofs.Truths.{both, either}
 use Rattle.pi_duty.specs.Small.{is_plain_text, has_no_value, field_fits, line_fits, insn_units, lies, ends_in_return, is_empty, code_fits, method_fits, main_fits, clinit_fits, methods_fit, parent_fits, class_fits, has_text, one_fits, is_small}
-use Rattle.pi_duty.specs.Shape.{Brought, small_chain, laid_from, code_laid, method_laid, code_small, method_small, HasSmallClass, IsSmall}
+use Rattle.pi_format.specs.Says.Facts.{laid_from, code_laid, method_laid, few_registers, code_small, method_small, IsOfFile}
+use Rattle.pi_duty.specs.Shape.{Brought, small_chain, HasSmallClass, IsSmall}
 
 -- every instruction has a length
 has_length : (i : Insn) → nat_lt 0 (insn_units i) ≡ true
@@ -119,33 +121,6 @@ parts d e =
     let g = both (list_all field_fits d.fields) (methods_fit d d.methods) f.1 in
     record { faces = f.0; fields = g.0; methods = g.1 }
 
--- a number of 16 bits
-half_small : (file : List ℕ) (at : ℕ) → ((k : ℕ) → slice_index file k < 256) → half_at file at < 65536
-half_small file at below =
-    rw (get_or-drop at file 0 0, get_or-drop at file 1 0) (omega (arith, below (at + 0), below (at + 1)))
-
-holds_lt : (a b : ℕ) → a < b → nat_lt a b ≡ true
-holds_lt a b h = grind (arith, nat_tests)
-
--- code that is there has a number of registers of 16 bits
-abbrev few_registers : Option Code → Bool
-few_registers None = true
-few_registers (Some code) = nat_lt code.regs 65536
-
-code_is_small : (n : Named) (at : ℕ) → ((k : ℕ) → slice_index n.file k < 256) → nat_lt (code_at n at).regs 65536 ≡ true
-unfolding code_at
-code_is_small n at below = holds_lt (half_at n.file at) 65536 (half_small n.file at below)
-
-by_place : (zero_place : Bool) (n : Named) (at : ℕ) → ((k : ℕ) → slice_index n.file k < 256)
-    → few_registers (if zero_place then None else Some (code_at n at)) ≡ true
-by_place true n at below = refl
-by_place false n at below = code_is_small n at below
-
-said_small : (n : Named) (rows : List MemberRow) → ((k : ℕ) → slice_index n.file k < 256)
-    → list_all (λ (m : MethodDesc). few_registers m.code) (map (method_desc n) rows) ≡ true
-said_small n [] below = refl
-said_small n (row ∷ rows) below = rw (by_place (row.code == 0) n row.code below) (said_small n rows below)
-
 there_and_few : (o : Option Code) → code_laid o ≡ true → few_registers o ≡ true → code_small o ≡ true
 there_and_few None h k = h
 there_and_few (Some code) h k = k
@@ -172,19 +147,6 @@ one_class names main (d ∷ []) e =
     record { class = d; only = refl; called = a.0; fits = a.1 }
 one_class names main (d ∷ other ∷ ds) e = cc
 
-first_listed : {A : Type 0} (f : ℕ → A) (i n : ℕ) (x : A) → tabulation f i n ≡ x ∷ [] → x ≡ f i
-first_listed f i zero x e = cc
-first_listed f i (suc n) x e = cc
-
--- what is known of the class of a definition
-class_second : (n : Named) (i : ℕ) → (class_desc n 1 i).file.0 ≡ 1
-unfolding class_desc
-class_second n i = refl
-
-class_few : (n : Named) (i : ℕ) → ((k : ℕ) → slice_index n.file k < 256) → list_all (λ (m : MethodDesc). few_registers m.code) (class_desc n 1 i).methods ≡ true
-unfolding class_desc
-class_few n i below = said_small n (methods_in (rows_of n.file i)) below
-
 said_is : (file : List ℕ) → with_said core_program file
     ≡ with_file core_program (new_names core_names (texts_of file)) (types_said (named_file core_program file)) (classes_said (named_file core_program file) 1)
 unfolding with_said
@@ -197,6 +159,10 @@ brought file = record { names = new_names core_names (texts_of file); types = ty
 -- the law of files, for one behind the first file
 abbrev Keeps : Type 0
 Keeps = (p : Program) (file : List ℕ) → IsProgram p → HasRoom p → length p.files < 8 → length file ≤ 16777216 → broken_rule file ≡ None → IsProgram (with_said p file)
+
+-- and the law of the classes that it says
+abbrev HasFacts : Type 0
+HasFacts = (p : Program) (file : List ℕ) (number : ℕ) → ((k : ℕ) → slice_index file k < 256) → All (IsOfFile number) (classes_said (named_file p file) number)
 
 core_room : HasRoom core_program
 unfolding core_names
@@ -230,39 +196,37 @@ module _ (fits : FitsBehind no_files core_names core_types core_classes) (keeps 
     chain = chain_is one;
     distinct = said_distinct kept;
     fits = one.fits;
-    named_file = one.called;
+    named = one.called;
   }
 
   pub class_said : broken_rule file ≡ None → is_small main (with_said core_program file) ≡ true → HasSmallClass main (with_said core_program file)
   class_said kept small = class_of_one kept (one_said small)
 
-  shape_of : broken_rule file ≡ None → ((k : ℕ) → slice_index file k < 256)
+  shape_of : HasFacts → broken_rule file ≡ None → ((k : ℕ) → slice_index file k < 256)
       → OneClass (core_names ++ new_names core_names (texts_of file)) main (classes_said (named_file core_program file) 1)
       → IsSmall main (with_said core_program file)
   unfolding brought
-  shape_of kept below one =
+  shape_of has_facts kept below one =
       let d : ClassDesc = one.class in
       let is : Parts d = parts d one.fits in
       let laid : list_all method_laid d.methods ≡ true = methods_laid d d.methods is.methods in
-      let first : d ≡ class_desc (named_file core_program file) 1 0 =
-      first_listed (class_desc (named_file core_program file) 1) 0 (count_at file class_defs) d one.only in
+      let facts : IsOfFile 1 d = all_first (IsOfFile 1) d [] (subst (All (IsOfFile 1)) one.only (has_facts core_program file 1 below)) in
       record {
         new = brought file;
         class = d;
         chain = chain_is one;
         distinct = said_distinct kept;
         fits = one.fits;
-        named_file = one.called;
+        named = one.called;
         laid = laid;
-        narrow = each_small d.methods laid
-            (subst (λ (x : ClassDesc). list_all (λ (m : MethodDesc). few_registers m.code) x.methods ≡ true) (sym first) (class_few (named_file core_program file) 0 below));
+        narrow = each_small d.methods laid facts.registers;
         zero_values = fields_zero d.fields is.fields;
-        second = ap (λ (x : ClassDesc). x.file.0) first ∙ class_second (named_file core_program file) 0;
+        second = facts.file;
         no_faces = empty_is d.faces is.faces;
       }
 
-  pub shape_said : ((k : ℕ) → slice_index file k < 256) → (p : Program) → SaysNext core_program file p → is_small main p ≡ true → IsSmall main p
-  shape_said below p says small =
+  pub shape_said : HasFacts → ((k : ℕ) → slice_index file k < 256) → (p : Program) → SaysNext core_program file p → is_small main p ≡ true → IsSmall main p
+  shape_said has_facts below p says small =
       let is : with_said core_program file ≡ p = sym says.chain in
       let there : is_small main (with_said core_program file) ≡ true = subst (λ (q : Program). is_small main q ≡ true) says.chain small in
-      subst (IsSmall main) is (shape_of says.kept below (one_said there))
+      subst (IsSmall main) is (shape_of has_facts says.kept below (one_said there))

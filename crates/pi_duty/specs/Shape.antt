@@ -14,6 +14,7 @@ use Rattle.pi_model.specs.Texts.{same_text}
 use Rattle.pi_format.specs.Core.{core_names, core_program}
 use Rattle.pi_format.specs.Rules.{broken_rule}
 use Rattle.pi_format.specs.Says.{SaysNext, with_said}
+use Rattle.pi_format.specs.Says.Facts.{method_laid, method_small}
 use Rattle.pi_duty.specs.Small.{class_fits, has_text, has_no_value, is_small}
 
 -- what a file brings beside its classes: names, and the types that it names
@@ -24,27 +25,6 @@ pub record Brought : Type 0 where
 -- the program of the first file and one more with this class
 abbrev pub small_chain : Brought → ClassDesc → Program
 small_chain new d = with_file core_program new.names new.types (d ∷ [])
-
--- each instruction begins where the one before it ends, the first at that address, and none is empty
-abbrev pub laid_from : ℕ → List Line → Bool
-laid_from at [] = true
-laid_from at (l ∷ ls) = (l.at == at) && (nat_lt 0 l.units && laid_from (at + l.units) ls)
-
--- there is code, whose instructions lie so from address 0 on
-abbrev pub code_laid : Option Code → Bool
-code_laid None = false
-code_laid (Some code) = laid_from 0 code.insns
-
-abbrev pub method_laid : MethodDesc → Bool
-method_laid m = code_laid m.code
-
--- there is code, whose number of registers is one of 16 bits
-abbrev pub code_small : Option Code → Bool
-code_small None = false
-code_small (Some code) = nat_lt code.regs 65536
-
-abbrev pub method_small : MethodDesc → Bool
-method_small m = code_small m.code
 
 -- the program is that of the first file and one class more, which fits and is named so
 pub record HasSmallClass (main : List ℕ) (p : Program) : Type 0 where

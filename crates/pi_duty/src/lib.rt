@@ -11,7 +11,7 @@ ghost use Rattle.pi_duty.specs.Duty.{OwesOnce, ReadersWriteNothing};
 ghost use Rattle.pi_duty.specs.Shape.{SmallHasClass, SmallHasShape};
 
 use pi_format::core_fits;
-use pi_said::said_keeps;
+use pi_said::{classes_are_of_file, said_keeps};
 
 /// For its words and for what the store holds a command owes one thing at most.
 pub fn owes_once()
@@ -37,4 +37,5 @@ pub fn small_shape()
 {
     core_fits();
     said_keeps();
+    classes_are_of_file();
 }

@@ -8,6 +8,7 @@ pub mod Names
 pub mod Insns
 pub mod Codes
 pub mod Classes
+pub mod Facts
 
 -- a file behind a chain, with the numbers that its strings have there
 abbrev pub named_file : Program → List ℕ → Named

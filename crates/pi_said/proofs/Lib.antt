@@ -7,4 +7,5 @@ pub mod Members
 pub mod Tables
 pub mod Below
 pub mod Fold
+pub mod Facts
 mod Premises

@@ -2,10 +2,11 @@
 //
 // Proved: the program with one more file keeps what every program keeps (`said_keeps`, `said_fits`, `said_has_room`), the
 // number of each string is that of the name with its text (`names_are_texts`), and so of all files of a chain
-// (`files_say_a_program`).
+// (`files_say_a_program`); each class is of its file, with numbers of registers that fit their type
+// (`classes_are_of_file`).
 #![tactic(auto)]
 
-ghost use Rattle.std.specs.Prelude.{◌≡◌, ◌<◌, ◌≤◌, ℕ, List, length, None, Some, slice_get};
+ghost use Rattle.std.specs.Prelude.{◌≡◌, ◌<◌, ◌≤◌, ℕ, List, length, None, Some, slice_get, slice_index};
 ghost use Rattle.std.specs.List.{All};
 ghost use Rattle.pi_model.specs.Program.{Program};
 ghost use Rattle.pi_model.specs.Valid.{FitsBehind, IsProgram};
@@ -14,6 +15,7 @@ ghost use Rattle.pi_format.specs.Rules.{broken_rule};
 ghost use Rattle.pi_format.specs.Rules.Strings.{string_units};
 ghost use Rattle.pi_format.specs.Says.{HasRoom, Says, named_file, with_said};
 ghost use Rattle.pi_format.specs.Says.Classes.{classes_said, types_said};
+ghost use Rattle.pi_format.specs.Says.Facts.{IsOfFile};
 ghost use Rattle.pi_format.specs.Says.Names.{new_names, string_name, texts_of};
 
 /// The law that a file that breaks no rule fits behind a program.
@@ -48,4 +50,10 @@ pub fn files_say_a_program()
     ensures { (files : List (List ℕ)) (p : Program) → Says files p → length files ≤ 8
         → All (λ file. length file ≤ 16777216) files
         → IsProgram p × HasRoom p × (length p.files ≡ length files) }
+{}
+
+/// Each class that a list of bytes says is of that file, and the numbers of registers of its codes fit their type.
+pub fn classes_are_of_file()
+    ensures { (p : Program) (file : List ℕ) (number : ℕ) → ((k : ℕ) → slice_index file k < 256)
+        → All (IsOfFile number) (classes_said (named_file p file) number) }
 {}

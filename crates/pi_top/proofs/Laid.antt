@@ -3,7 +3,7 @@ use Rattle.std.proofs.Common.{◌≡◌, ℕ, zero, suc, ◌+◌, ◌<◌, ◌�
 use Rattle.std.proofs.lemmas.Bool.Decides.{nat_tests}
 use Rattle.std.specs.Prelude.{nat_lt, slice_get, ◌&&◌, ◌==◌, find}
 use Rattle.pi_model.specs.declared.describe.Line.{Line}
-use Rattle.pi_duty.specs.Shape.{laid_from}
+use Rattle.pi_format.specs.Says.Facts.{laid_from}
 use Rattle.pi_machine.proofs.Truths.{both, same_of, same_self, some_same}
 use Rattle.pi_top.proofs.Words.{lt_of}
 

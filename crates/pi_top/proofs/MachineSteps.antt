@@ -20,7 +20,8 @@ use Rattle.pi_model.specs.Program.{method_number}
 use Rattle.pi_model.specs.Search.{in_class, method_of}
 use Rattle.pi_model.specs.Values.{Value, Word, At, Num}
 use Rattle.pi_duty.specs.Small.{insn_fits, line_fits, has_no_value, is_zero}
-use Rattle.pi_duty.specs.Shape.{small_chain, laid_from, Brought}
+use Rattle.pi_format.specs.Says.Facts.{laid_from}
+use Rattle.pi_duty.specs.Shape.{small_chain, Brought}
 use Rattle.pi_model.specs.declared.describe.Init.{Init}
 use Rattle.pi_model.specs.declared.describe.Init.TheVariants as init
 use Rattle.pi_machine.specs.State.{Thing, Entered, ValuesSet, Running}

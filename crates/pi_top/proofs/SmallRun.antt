@@ -13,7 +13,8 @@ use Rattle.pi_model.specs.Texts.{same_text}
 use Rattle.pi_format.specs.Core.{core_names, main_name, clinit_name}
 use Rattle.pi_model.specs.Distinct.{all_distinct}
 use Rattle.pi_duty.specs.Small.{class_fits, has_text, line_fits, ends_in_return, has_no_value}
-use Rattle.pi_duty.specs.Shape.{small_chain, laid_from, code_laid, code_small, method_laid, method_small, IsSmall, Brought}
+use Rattle.pi_format.specs.Says.Facts.{laid_from, code_laid, code_small, method_laid, method_small}
+use Rattle.pi_duty.specs.Shape.{small_chain, IsSmall, Brought}
 use Rattle.pi_machine.specs.State.{Made}
 use Rattle.pi_machine.specs.Start.{start_state, argument_bytes, argument_objects}
 use Rattle.pi_machine.specs.Ends.{Finish, EndsFrom, first_tally}
