@@ -1,7 +1,6 @@
 -- Values one behind the other.
-use Rattle.std.proofs.Common.{◌≡◌, ℕ, zero, suc, ◌+◌, ◌-◌, ◌<◌, ◌≤◌, List, [], ◌∷◌, ◌++◌, length, take, drop, get_or, Option, Some, None, Bool, true, false, refl, sym, ap, ◌∙◌, arith, add-one, drop-cons, drop_of_length-le, append_assoc}
+use Rattle.std.proofs.Common.{◌≡◌, ℕ, suc, ◌+◌, ◌-◌, ◌<◌, ◌≤◌, List, [], ◌∷◌, ◌++◌, length, take, drop, get_or, Option, Some, None, Bool, true, false, refl, sym, ap, ◌∙◌, arith, add-one, drop-cons, drop_of_length-le, append_assoc}
 use Rattle.std.specs.Prelude.{if◌then◌else◌}
-use Rattle.std.proofs.lemmas.List.{append-nil}
 use Rattle.byteorder.specs.Endian.{little_from}
 use Rattle.byteorder.specs.Numbers.{little_from-take}
 use Rattle.pi_bytes.specs.Place.{Place}
@@ -79,9 +78,3 @@ values_over file fields done k n p lt past =
     let more : n - k ≡ suc (n - (k + 1)) = omega arith in
     let rest : drop k fields ≡ [] = drop_of_length-le fields past in
     ap (read_behind done) (ap (λ (fs : List MemberRow). values_from file fs (n - k) p) rest ∙ ap (λ (m : ℕ). values_from file [] m p) more)
-
-pub values_done : (file : List ℕ) (fields : List MemberRow) (done : List EncodedValue) (k n : ℕ) (p : Place) → n ≤ k
-    → read_behind done (values_from file (drop k fields) (n - k) p) ≡ Some done
-values_done file fields done k n p le =
-    let none : n - k ≡ zero = omega arith in
-    ap (λ (m : ℕ). read_behind done (values_from file (drop k fields) m p)) none ∙ ap Some (append-nil done)
