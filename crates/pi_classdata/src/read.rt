@@ -13,6 +13,7 @@ use crate::rows::{ClassRows, MemberRow};
 use pi_bytes::cursor::Cursor;
 use pi_dexraw::Raw;
 use pi_format::lists::MemberList;
+use pi_format::lists::MemberList::{DirectMethods, InstanceFields, StaticFields, VirtualMethods};
 use pi_model::listed::Listed;
 use std::alloc::{AllocError, Global};
 use std::marker::Model;
@@ -39,8 +40,8 @@ fn has_code(list: MemberList) -> bool
     ensures { result ≡ has_code list }
 {
     match list {
-        MemberList::StaticFields | MemberList::InstanceFields => false,
-        MemberList::DirectMethods | MemberList::VirtualMethods => true,
+        StaticFields | InstanceFields => false,
+        DirectMethods | VirtualMethods => true,
     }
 }
 
@@ -161,38 +162,10 @@ fn all_rows(
     ensures { AreRows (rows_at raw.now owner.now cursor.old) result }
 {
     let n = counts(cursor).ok_or(RowsFault::Broken)?;
-    let statics = rows(
-        alloc,
-        raw,
-        owner,
-        MemberList::StaticFields,
-        n.statics,
-        cursor,
-    )?;
-    let instances = rows(
-        alloc,
-        raw,
-        owner,
-        MemberList::InstanceFields,
-        n.instances,
-        cursor,
-    )?;
-    let directs = rows(
-        alloc,
-        raw,
-        owner,
-        MemberList::DirectMethods,
-        n.directs,
-        cursor,
-    )?;
-    let virtuals = rows(
-        alloc,
-        raw,
-        owner,
-        MemberList::VirtualMethods,
-        n.virtuals,
-        cursor,
-    )?;
+    let statics = rows(alloc, raw, owner, StaticFields, n.statics, cursor)?;
+    let instances = rows(alloc, raw, owner, InstanceFields, n.instances, cursor)?;
+    let directs = rows(alloc, raw, owner, DirectMethods, n.directs, cursor)?;
+    let virtuals = rows(alloc, raw, owner, VirtualMethods, n.virtuals, cursor)?;
     if !are_apart(statics.as_slice(), instances.as_slice())
         || !are_apart(directs.as_slice(), virtuals.as_slice())
     {
