@@ -6,8 +6,8 @@ use Rattle.std.specs.List.{All}
 use Rattle.std.proofs.Math.Nat.{pow-succ'}
 use Rattle.std.proofs.lemmas.Bool.Decides.{nat_tests}
 use Rattle.byteorder.specs.Endian.{little_from, little_number}
-use Rattle.pi_bytes.specs.Place.{Place, ahead}
-use Rattle.pi_bytes.specs.Reading.{number_at, placed}
+use Rattle.pi_bytes.specs.Place.{Place, bytes_from}
+use Rattle.pi_bytes.specs.Reading.{number_at, reading_at}
 use Rattle.pi_bytes.specs.Leb.{uleb_at, uleb_by}
 use Rattle.pi_bytes.specs.declared.fault.ReadFault.{ReadFault}
 use Rattle.pi_bytes.specs.declared.fault.ReadFault.TheVariants as fault
@@ -52,12 +52,12 @@ readable_some (Err fault) x e = cc
 
 -- a number that was read has so many bytes
 number_small : (n : ℕ) (p : Place) (x : ℕ × Place) → AreBytes p.bytes → number_at n p ≡ Ok x → x.0 < 256 ^ n
-number_small n p x are e = by_test (nat_le n (length (ahead p))) e
+number_small n p x are e = by_test (nat_le n (length (bytes_from p))) e
   where
-    by_test : (b : Bool) → (if b then Ok (little_number n (ahead p), record { bytes = p.bytes; at = p.at + n }) else Err fault.Short) ≡ Ok x → x.0 < 256 ^ n
+    by_test : (b : Bool) → (if b then Ok (little_number n (bytes_from p), record { bytes = p.bytes; at = p.at + n }) else Err fault.Short) ≡ Ok x → x.0 < 256 ^ n
     by_test true f =
-        let is : little_number n (ahead p) ≡ x.0 = cc in
-        subst (λ (m : ℕ). m < 256 ^ n) is (small_number (ahead p) (rest_are p.bytes are p.at) 0 n)
+        let is : little_number n (bytes_from p) ≡ x.0 = cc in
+        subst (λ (m : ℕ). m < 256 ^ n) is (small_number (bytes_from p) (rest_are p.bytes are p.at) 0 n)
     by_test false f = cc
 
 -- a value that was read has as many bytes as its kind and argument say, and an argument of three bits
@@ -72,11 +72,11 @@ one_byte : (n : ℕ) → n < 256 ^ 1 → n < 256
 one_byte n lt = omega (arith, lt)
 
 number_stays : (n : ℕ) (p : Place) (x : ℕ × Place) → number_at n p ≡ Ok x → x.1.bytes ≡ p.bytes
-number_stays n p x e = by_test (nat_le n (length (ahead p))) e
+number_stays n p x e = by_test (nat_le n (length (bytes_from p))) e
   where
-    by_test : (b : Bool) → (if b then Ok (little_number n (ahead p), record { bytes = p.bytes; at = p.at + n }) else Err fault.Short) ≡ Ok x → x.1.bytes ≡ p.bytes
+    by_test : (b : Bool) → (if b then Ok (little_number n (bytes_from p), record { bytes = p.bytes; at = p.at + n }) else Err fault.Short) ≡ Ok x → x.1.bytes ≡ p.bytes
     by_test true f =
-        let is : (little_number n (ahead p), record { bytes = p.bytes; at = p.at + n }) ≡ x = cc in
+        let is : (little_number n (bytes_from p), record { bytes = p.bytes; at = p.at + n }) ≡ x = cc in
         ap (λ (y : ℕ × Place). y.1.bytes) (sym is)
     by_test false f = cc
 
@@ -181,9 +181,9 @@ values_set file (field ∷ fields) (suc n) p values are e =
 
 uleb_stays : (p : Place) (x : ℕ × Place) → uleb_at p ≡ Ok x → x.1.bytes ≡ p.bytes
 unfolding uleb_at
-uleb_stays p x e = by_read (uleb_by 4 (ahead p)) e
+uleb_stays p x e = by_read (uleb_by 4 (bytes_from p)) e
   where
-    by_read : (r : Result (ℕ × ℕ) ReadFault) → placed p r ≡ Ok x → x.1.bytes ≡ p.bytes
+    by_read : (r : Result (ℕ × ℕ) ReadFault) → reading_at p r ≡ Ok x → x.1.bytes ≡ p.bytes
     by_read (Ok y) f =
         let is : (y.0, record { bytes = p.bytes; at = p.at + y.1 }) ≡ x = cc in
         ap (λ (z : ℕ × Place). z.1.bytes) (sym is)
