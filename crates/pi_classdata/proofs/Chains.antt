@@ -12,62 +12,62 @@ use Rattle.pi_format.proofs.Held.{both}
 use Rattle.pi_classdata.specs.Held.{held_row, rise}
 
 -- a row that holds behind the one before it
-abbrev pub tested : (MemberRow → Bool) → Option ℕ → Option (MemberRow × Place) → Option (MemberRow × Place)
-tested holds before m = m >>= (λ row. if is_behind before row.0.id && holds row.0 then Some row else None)
+abbrev pub held_first : (MemberRow → Bool) → Option ℕ → Option (MemberRow × Place) → Option (MemberRow × Place)
+held_first holds before m = m >>= (λ row. if is_behind before row.0.id && holds row.0 then Some row else None)
 
 -- that row and those behind it
-abbrev pub onward : (MemberRow → Bool) → MemberList → ℕ → Option (MemberRow × Place) → Option (List MemberRow × Place)
-onward holds list n m = m >>= (λ row. rows_from holds list n (Some row.0.id) row.1 >>= (λ others. Some (row.0 ∷ others.0, others.1)))
+abbrev pub first_and_others : (MemberRow → Bool) → MemberList → ℕ → Option (MemberRow × Place) → Option (List MemberRow × Place)
+first_and_others holds list n m = m >>= (λ row. rows_from holds list n (Some row.0.id) row.1 >>= (λ others. Some (row.0 ∷ others.0, others.1)))
 
 chosen : (holds : MemberRow → Bool) (list : MemberList) (n : ℕ) (b : Bool) (row : MemberRow × Place)
     → (if b then (rows_from holds list n (Some row.0.id) row.1 >>= (λ others. Some (row.0 ∷ others.0, others.1))) else None)
-    ≡ onward holds list n (if b then Some row else None)
+    ≡ first_and_others holds list n (if b then Some row else None)
 chosen holds list n true row = refl
 chosen holds list n false row = refl
 
 parted : (holds : MemberRow → Bool) (list : MemberList) (n : ℕ) (before : Option ℕ) (m : Option (MemberRow × Place))
     → (m >>= (λ row. if is_behind before row.0.id && holds row.0
     then (rows_from holds list n (Some row.0.id) row.1 >>= (λ others. Some (row.0 ∷ others.0, others.1))) else None))
-    ≡ onward holds list n (tested holds before m)
+    ≡ first_and_others holds list n (held_first holds before m)
 parted holds list n before None = refl
 parted holds list n before (Some row) = chosen holds list n (is_behind before row.0.id && holds row.0) row
 
 rows_step : (holds : MemberRow → Bool) (list : MemberList) (n : ℕ) (before : Option ℕ) (p : Place)
-    → rows_from holds list (suc n) before p ≡ onward holds list n (tested holds before (member_row list before p))
+    → rows_from holds list (suc n) before p ≡ first_and_others holds list n (held_first holds before (member_row list before p))
 rows_step holds list n before p = parted holds list n before (member_row list before p)
 
 -- those that were read, before the others where there are any
-abbrev pub joined : {A : Type 0} → List A → Option (List A × Place) → Option (List A × Place)
-joined done None = None
-joined done (Some others) = Some (done ++ others.0, others.1)
+abbrev pub with_others : {A : Type 0} → List A → Option (List A × Place) → Option (List A × Place)
+with_others done None = None
+with_others done (Some others) = Some (done ++ others.0, others.1)
 
 joined_more : {A : Type 0} (done : List A) (x : A) (rest : Option (List A × Place))
-    → joined (done ++ x ∷ []) rest ≡ joined done (rest >>= (λ others. Some (x ∷ others.0, others.1)))
+    → with_others (done ++ x ∷ []) rest ≡ with_others done (rest >>= (λ others. Some (x ∷ others.0, others.1)))
 joined_more done x None = refl
 joined_more done x (Some others) = ap (λ all. Some (all, others.1)) (append_assoc done (x ∷ []) others.0)
 
 pub rows_more : (file : List ℕ) (o : Owner) (list : MemberList) (done : List MemberRow) (n more : ℕ) (before : Option ℕ) (p q : Place) (row : MemberRow)
     → n ≡ suc more → held_row file o list before p ≡ Some (row, q)
-    → joined (done ++ row ∷ []) (rows_from (row_holds file o list) list more (Some row.id) q)
-    ≡ joined done (rows_from (row_holds file o list) list n before p)
+    → with_others (done ++ row ∷ []) (rows_from (row_holds file o list) list more (Some row.id) q)
+    ≡ with_others done (rows_from (row_holds file o list) list n before p)
 unfolding held_row
 rows_more file o list done n more before p q row e is =
     joined_more done row (rows_from (row_holds file o list) list more (Some row.id) q)
-    ∙ ap (joined done) (sym (ap (λ k. rows_from (row_holds file o list) list k before p) e
+    ∙ ap (with_others done) (sym (ap (λ k. rows_from (row_holds file o list) list k before p) e
     ∙ rows_step (row_holds file o list) list more before p
-    ∙ ap (onward (row_holds file o list) list more) is))
+    ∙ ap (first_and_others (row_holds file o list) list more) is))
 
 pub rows_stop : (file : List ℕ) (o : Owner) (list : MemberList) (done : List MemberRow) (n more : ℕ) (before : Option ℕ) (p : Place)
     → n ≡ suc more → held_row file o list before p ≡ None
-    → joined done (rows_from (row_holds file o list) list n before p) ≡ None
+    → with_others done (rows_from (row_holds file o list) list n before p) ≡ None
 unfolding held_row
 rows_stop file o list done n more before p e is =
-    ap (joined done) (ap (λ k. rows_from (row_holds file o list) list k before p) e
+    ap (with_others done) (ap (λ k. rows_from (row_holds file o list) list k before p) e
     ∙ rows_step (row_holds file o list) list more before p
-    ∙ ap (onward (row_holds file o list) list more) is)
+    ∙ ap (first_and_others (row_holds file o list) list more) is)
 
 pub rows_done : (file : List ℕ) (o : Owner) (list : MemberList) (done : List MemberRow) (n : ℕ) (before : Option ℕ) (p : Place)
-    → n ≡ zero → joined done (rows_from (row_holds file o list) list n before p) ≡ Some (done, p)
+    → n ≡ zero → with_others done (rows_from (row_holds file o list) list n before p) ≡ Some (done, p)
 rows_done file o list done n before p e = rw e (ap (λ all. Some (all, p)) (append-nil done))
 
 -- what holds of rows that were read
@@ -91,7 +91,7 @@ more_good holds before row (Some others) x b later e =
     let is : ◌≡◌ {A = List MemberRow × Place} (row ∷ others.0, others.1) x = cc in
     subst (λ (y : List MemberRow × Place). AreGood holds before y.0) is (record { rising = rw here.0 good.rising; all = rw here.1 good.all })
 
-one_good : (holds : MemberRow → Bool) (before : Option ℕ) (m : Option (MemberRow × Place)) (row : MemberRow × Place) → tested holds before m ≡ Some row
+one_good : (holds : MemberRow → Bool) (before : Option ℕ) (m : Option (MemberRow × Place)) (row : MemberRow × Place) → held_first holds before m ≡ Some row
     → (is_behind before row.0.id && holds row.0) ≡ true
 one_good holds before None row e = cc
 one_good holds before (Some x) row e = kept (is_behind before x.0.id && holds x.0) refl e
@@ -106,7 +106,7 @@ one_good holds before (Some x) row e = kept (is_behind before x.0.id && holds x.
 onward_good : (holds : MemberRow → Bool) (list : MemberList) (n : ℕ) (before : Option ℕ) (m : Option (MemberRow × Place)) (x : List MemberRow × Place)
     → ((row : MemberRow × Place) → m ≡ Some row → (is_behind before row.0.id && holds row.0) ≡ true)
     → ((first : Option ℕ) (p : Place) (others : List MemberRow × Place) → rows_from holds list n first p ≡ Some others → AreGood holds first others.0)
-    → onward holds list n m ≡ Some x
+    → first_and_others holds list n m ≡ Some x
     → AreGood holds before x.0
 unfolding behind_row
 onward_good holds list n before None x here later e = cc
@@ -120,7 +120,7 @@ rows_good holds list zero before p x e =
     let is : ◌≡◌ {A = List MemberRow × Place} ([], p) x = cc in
     subst (λ (y : List MemberRow × Place). AreGood holds before y.0) is (record { rising = refl; all = refl })
 rows_good holds list (suc n) before p x e =
-    onward_good holds list n before (tested holds before (member_row list before p)) x
+    onward_good holds list n before (held_first holds before (member_row list before p)) x
     (one_good holds before (member_row list before p))
     (λ first at others is. rows_good holds list n first at others is)
     (sym (rows_step holds list n before p) ∙ e)

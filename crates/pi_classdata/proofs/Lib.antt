@@ -4,4 +4,4 @@ mod Merged
 mod Places
 mod Loops
 mod Fits
-mod Members
+pub mod Members

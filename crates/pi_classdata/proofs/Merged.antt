@@ -98,11 +98,6 @@ meets xs ys i j x y lt lu x_is y_is same =
     let dy : drop j ys ≡ y ∷ drop (j + 1) ys = cc (drop-cons ys j y lu, add-one j) in
     along (drop i xs) (x ∷ drop (i + 1) xs) (drop j ys) (y ∷ drop (j + 1) ys) dx dy ∙ met x y (drop (i + 1) xs) (drop (j + 1) ys) same
 
-pub first_ends : (i : ℕ) (xs ys : List MemberRow) (all : Bool) → length xs ≤ i → are_apart (drop i xs) ys ≡ all → true ≡ all
-first_ends i xs ys all le e =
-    let none : drop i xs ≡ [] = drop_of_length-le xs le in
-    sym (ap (λ (zs : List MemberRow). are_apart zs ys) none) ∙ e
-
 pub second_ends : (j : ℕ) (xs ys : List MemberRow) (all : Bool) → length ys ≤ j → are_apart xs (drop j ys) ≡ all → true ≡ all
 second_ends j xs ys all le e =
     let none : drop j ys ≡ [] = drop_of_length-le ys le in

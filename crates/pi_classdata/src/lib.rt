@@ -6,6 +6,7 @@
 #![tactic(auto)]
 
 mod apart;
+mod fault;
 mod flags;
 mod judge;
 mod laws;
@@ -18,5 +19,5 @@ pub use flags::AccessFlags;
 pub use laws::{rows_are_members, values_are_there};
 pub use read::class_rows;
 pub use rows::{ClassRows, MemberRow};
-pub use table::{RowTable, read_rows};
+pub use table::{RowTable, lower, read_rows};
 pub use values::{EncodedValue, Values, class_values, values_rule};

@@ -4,14 +4,16 @@ ghost use Rattle.std.specs.Prelude.{◌≡◌, ◌<◌, ◌≤◌, ◌^◌, true
 ghost use Rattle.pi_format.specs.Tables.{count_at, class_defs};
 ghost use Rattle.pi_format.specs.Rules.Rows.{has_code, code_offset, counted_from, is_behind, member_row};
 ghost use Rattle.pi_format.specs.Rules.ClassData.{row_counts, rows_of_list, rows_at, class_rows};
-ghost use Rattle.pi_classdata.specs.Held.{Reads, held_row, rise};
+ghost use Rattle.pi_classdata.specs.Held.{Reads, ReadsRows, AreRows, held_row, rise};
 
 use crate::apart::are_apart;
+use crate::fault::RowsFault;
 use crate::judge::{Owner, ReadRow, holds, owner_of};
 use crate::rows::{ClassRows, MemberRow};
 use pi_bytes::cursor::Cursor;
 use pi_dexraw::Raw;
 use pi_format::lists::MemberList;
+use pi_format::lists::MemberList::{DirectMethods, InstanceFields, StaticFields, VirtualMethods};
 use pi_model::listed::Listed;
 use std::alloc::{AllocError, Global};
 use std::marker::Model;
@@ -38,8 +40,8 @@ fn has_code(list: MemberList) -> bool
     ensures { result ≡ has_code list }
 {
     match list {
-        MemberList::StaticFields | MemberList::InstanceFields => false,
-        MemberList::DirectMethods | MemberList::VirtualMethods => true,
+        StaticFields | InstanceFields => false,
+        DirectMethods | VirtualMethods => true,
     }
 }
 
@@ -116,20 +118,20 @@ fn rows(
     list: MemberList,
     count: u32,
     cursor: &mut Cursor<'_>,
-) -> Result<Option<Listed<MemberRow>>, AllocError>
-    ensures value { IfOk result (λ r. Reads (rows_of_list raw.now owner.now list count cursor.old) cursor.new r) }
-    ensures rising { IfOk result (λ r. IfSome r (λ rows. rise None rows ≡ true)) }
+) -> Result<Listed<MemberRow>, RowsFault>
+    ensures value { ReadsRows (rows_of_list raw.now owner.now list count cursor.old) cursor.new result }
+    ensures rising { IfOk result (λ rows. rise None rows ≡ true) }
 {
     let mut rows = Listed::new(alloc);
     let mut before = None;
     for _ in 0..count {
         let Some(row) = row(raw, owner, list, cursor, before) else {
-            return Ok(None);
+            return Err(RowsFault::Broken);
         };
         before = Some(row.id);
         rows.push(row)?;
     }
-    Ok(Some(rows))
+    Ok(rows)
 }
 
 /// How many rows the four lists have.
@@ -149,8 +151,35 @@ fn counts(cursor: &mut Cursor<'_>) -> Option<RowCounts>
     })
 }
 
-/// The rows of class data at a place.
+/// The rows of the four lists, of which no two have a member in common.
 #[tactic(auto, unfolding(pi_format::specs::Rules::ClassData::rows_at))]
+fn all_rows(
+    alloc: Global,
+    raw: &Raw<'_>,
+    owner: &Owner,
+    cursor: &mut Cursor<'_>,
+) -> Result<ClassRows, RowsFault>
+    ensures { AreRows (rows_at raw.now owner.now cursor.old) result }
+{
+    let n = counts(cursor).ok_or(RowsFault::Broken)?;
+    let statics = rows(alloc, raw, owner, StaticFields, n.statics, cursor)?;
+    let instances = rows(alloc, raw, owner, InstanceFields, n.instances, cursor)?;
+    let directs = rows(alloc, raw, owner, DirectMethods, n.directs, cursor)?;
+    let virtuals = rows(alloc, raw, owner, VirtualMethods, n.virtuals, cursor)?;
+    if !are_apart(statics.as_slice(), instances.as_slice())
+        || !are_apart(directs.as_slice(), virtuals.as_slice())
+    {
+        return Err(RowsFault::Broken);
+    }
+    Ok(ClassRows {
+        statics,
+        instances,
+        directs,
+        virtuals,
+    })
+}
+
+/// The rows of class data at a place, None where they do not hold.
 fn rows_at(
     alloc: Global,
     raw: &Raw<'_>,
@@ -159,64 +188,11 @@ fn rows_at(
 ) -> Result<Option<ClassRows>, AllocError>
     ensures { IfOk result (λ r. r ≡ rows_at raw.now owner.now cursor.old) }
 {
-    let Some(counts) = counts(cursor) else {
-        return Ok(None);
-    };
-    let Some(statics) = rows(
-        alloc,
-        raw,
-        owner,
-        MemberList::StaticFields,
-        counts.statics,
-        cursor,
-    )?
-    else {
-        return Ok(None);
-    };
-    let Some(instances) = rows(
-        alloc,
-        raw,
-        owner,
-        MemberList::InstanceFields,
-        counts.instances,
-        cursor,
-    )?
-    else {
-        return Ok(None);
-    };
-    let Some(directs) = rows(
-        alloc,
-        raw,
-        owner,
-        MemberList::DirectMethods,
-        counts.directs,
-        cursor,
-    )?
-    else {
-        return Ok(None);
-    };
-    let Some(virtuals) = rows(
-        alloc,
-        raw,
-        owner,
-        MemberList::VirtualMethods,
-        counts.virtuals,
-        cursor,
-    )?
-    else {
-        return Ok(None);
-    };
-    if !are_apart(statics.as_slice(), instances.as_slice())
-        || !are_apart(directs.as_slice(), virtuals.as_slice())
-    {
-        return Ok(None);
+    match all_rows(alloc, raw, owner, cursor) {
+        Ok(rows) => Ok(Some(rows)),
+        Err(RowsFault::Broken) => Ok(None),
+        Err(RowsFault::OutOfMemory) => Err(AllocError),
     }
-    Ok(Some(ClassRows {
-        statics,
-        instances,
-        directs,
-        virtuals,
-    }))
 }
 
 /// The members of a class definition, None where its class data does not hold. Reading stops at the first row that does

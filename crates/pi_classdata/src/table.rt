@@ -46,7 +46,7 @@ impl RowTable {
 }
 
 /// The lower of two places.
-pub(crate) fn lower(a: Option<u32>, b: Option<u32>) -> Option<u32>
+pub fn lower(a: Option<u32>, b: Option<u32>) -> Option<u32>
     ensures { result ≡ lower a b }
 {
     match (a, b) {

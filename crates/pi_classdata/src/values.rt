@@ -198,12 +198,7 @@ pub fn class_values(
 }
 
 /// The place of the static values of a class, if they do not hold.
-fn judged(
-    alloc: Global,
-    raw: &Raw<'_>,
-    rows: &ClassRows,
-    i: u32,
-) -> Result<Option<u32>, AllocError>
+fn judged(alloc: Global, raw: &Raw<'_>, rows: &ClassRows, i: u32) -> Result<Option<u32>, AllocError>
     requires counted { i < count_at raw.now class_defs }
     requires rows { rows.now ≡ rows_of raw.now i }
     ensures { IfOk result (λ r. r ≡ unless (is_some (class_values raw.now i)) (class_values_at raw.now i)) }

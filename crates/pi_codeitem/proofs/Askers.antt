@@ -1,10 +1,11 @@
 -- Which payloads instructions may point at, and the first instruction that breaks a test.
-use Rattle.std.proofs.Common.{◌≡◌, ℕ, zero, suc, ◌+◌, ◌<◌, List, [], ◌∷◌, length, drop, get_or, Bool, true, false, Option, Some, None, refl, sym, ap, ◌∙◌, arith, subst, drop-cons, add-one}
+use Rattle.std.proofs.Common.{◌≡◌, ℕ, zero, suc, List, [], ◌∷◌, Bool, true, false, Option, Some, None, refl, sym, ap, ◌∙◌, arith, subst}
 use Rattle.std.specs.Prelude.{◌==◌, ◌&&◌, ◌%◌, ℤ, pos, ◌+ℤ◌, slice_get, find, if◌then◌else◌}
 use Rattle.std.proofs.lemmas.Bool.Decides.{nat_tests}
 use Rattle.pi_insn.specs.declared.raw.RawInsn.{RawInsn}
 use Rattle.pi_insn.specs.Payloads.{PackedData, SparseData, ArrayData}
 use Rattle.pi_format.specs.Rules.Pieces.{Piece, What, Instruction, Payload, keys_rise, payload_fits, payload_found, address, payload_of, first_insn}
+use Rattle.pi_format.proofs.Loops.{none_first}
 use Rattle.pi_codeitem.specs.Asking.{asker, data_in, payload_in, passes}
 
 -- an opcode asks for another
@@ -52,17 +53,7 @@ first_is : (test : ℕ → RawInsn → Bool) (at units : ℕ) (w : What) (ps : L
 first_is test at units (Instruction i) ps = refl
 first_is test at units (Payload d) ps = refl
 
-first_at : (test : ℕ → RawInsn → Bool) (pieces : List Piece) (k : ℕ) (p : Piece) → k < length pieces → p ≡ get_or pieces k p
-    → first_insn test (drop k pieces) ≡ (if passes test p then first_insn test (drop (k + 1) pieces) else Some p.at)
-first_at test pieces k p lt is =
-    let e : drop k pieces ≡ p ∷ drop (k + 1) pieces = rw (add-one, drop-cons pieces k p) (ap (λ (q : Piece). q ∷ drop (suc k) pieces) (sym is)) in
-    rw e (first_is test p.at p.units p.what (drop (k + 1) pieces))
-
 -- where no instruction breaks a test, each passes it
-none_first : (b : Bool) (at : ℕ) (later : Option ℕ) → (if b then later else Some at) ≡ None → (b ≡ true) × (later ≡ None)
-none_first true at later e = (refl, e)
-none_first false at later e = cc
-
 pub all_pass : (test : ℕ → RawInsn → Bool) (pieces : List Piece) → first_insn test pieces ≡ None → (k : ℕ) (p : Piece) → slice_get pieces k ≡ Some p → passes test p ≡ true
 all_pass test [] e k p is = cc
 all_pass test (first ∷ others) e zero p is =

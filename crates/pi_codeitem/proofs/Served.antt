@@ -1,25 +1,18 @@
 -- Each range has one of the lists.
 use Rattle.std.proofs.Common.{◌≡◌, ℕ, zero, suc, ◌+◌, ◌<◌, List, Bool, true, false, Option, Some, None, refl, add-zero, zero-add, arith, subst}
-use Rattle.std.specs.Prelude.{◌==◌, ◌&&◌, if◌then◌else◌}
+use Rattle.std.specs.Prelude.{◌==◌, if◌then◌else◌}
 use Rattle.std.proofs.lemmas.Bool.Decides.{nat_tests}
 use Rattle.pi_insn.specs.Chain.{◌>>=◌}
 use Rattle.pi_format.specs.Rules.Entries.{each_from}
+use Rattle.pi_format.proofs.Held.{both}
 use Rattle.pi_format.specs.Rules.CodeItems.{HandlerList, code_head, tries_at, lists_at, try_range, ranges_hold, ranges_have_lists, handler_lists, is_list_at, code_lists}
 
-each_holds : (test : ℕ → Bool) (i n : ℕ) → each_from test i n ≡ true → (k : ℕ) → k < n → test (i + k) ≡ true
+pub each_holds : (test : ℕ → Bool) (i n : ℕ) → each_from test i n ≡ true → (k : ℕ) → k < n → test (i + k) ≡ true
 each_holds test i zero e k lt = absurd (omega arith)
-each_holds test i (suc n) e zero lt = rw (add-zero i) (and_left (test i) (each_from test (i + 1) n) e)
-  where
-    and_left : (a b : Bool) → (a && b) ≡ true → a ≡ true
-    and_left true b e = refl
-    and_left false b e = cc
+each_holds test i (suc n) e zero lt = rw (add-zero i) (both (test i) (each_from test (i + 1) n) e).0
 each_holds test i (suc n) e (suc k) lt =
     let place : i + 1 + k ≡ i + suc k = omega arith in
-    subst (λ j. test j ≡ true) place (each_holds test (i + 1) n (and_right (test i) (each_from test (i + 1) n) e) k (omega arith))
-  where
-    and_right : (a b : Bool) → (a && b) ≡ true → b ≡ true
-    and_right true b e = e
-    and_right false b e = cc
+    subst (λ j. test j ≡ true) place (each_holds test (i + 1) n (both (test i) (each_from test (i + 1) n) e).1 k (omega arith))
 
 lists_have : (file : List ℕ) (at : ℕ) (lists : List HandlerList) → code_lists file at ≡ Some lists → 0 < (code_head file at).tries
     → ranges_have_lists file at (code_head file at) lists ≡ true

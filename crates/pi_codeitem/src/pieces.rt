@@ -1,12 +1,12 @@
 // What stands at an address of a code: an instruction, or the payload of one.
 
 ghost use Rattle.std.specs.Prelude.{◌≡◌, ◌+◌, ◌*◌, ◌/◌, ◌<◌, ◌≤◌, length, drop, Some, None, IfSome, IfNone};
-ghost use Rattle.pi_insn.specs.Numbers.{signed_number};
 ghost use Rattle.pi_insn.specs.Lent.{data_of};
 ghost use Rattle.pi_format.specs.Rules.Entries.{each_from};
 ghost use Rattle.pi_format.specs.Rules.Pieces.{What as Found, front_piece, payload_units, payload_fits, signed_key, key_rises, keys_rise};
 ghost use Rattle.pi_codeitem.specs.Asking.{data_asker, data_in};
 
+use crate::numbers::{signed, word};
 use pi_insn::{Payload, RawInsn, decode, payload};
 use std::marker::Model;
 
@@ -41,24 +41,13 @@ impl<'a> Model for Piece<'a> {
     ghost invariant = { λ p. p.asked_by ≡ asker (what_of p.what) };
 }
 
-/// The signed number of 32 bits.
-fn signed(n: u32) -> i32
-    ensures { result ≡ signed_number 2147483648 n }
-{
-    if n < 1 << 31 {
-        n as i32
-    } else {
-        (n as i64 - (1 << 32)) as i32
-    }
-}
-
 /// The signed key of a case, by the units of all keys.
 fn signed_key(keys: &[u16], k: usize) -> i32
     requires small { length keys.now ≤ 16777216 }
     requires counted { 2 * k + 1 < length keys.now }
     ensures { result ≡ signed_key keys.now k }
 {
-    signed(keys[2 * k] as u32 + 65536 * keys[2 * k + 1] as u32)
+    signed(word(keys, 2 * k))
 }
 
 /// Whether a key is above the one before it.

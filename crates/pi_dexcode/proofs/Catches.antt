@@ -1,6 +1,6 @@
 -- The entries of handler tables, and where the ranges with their lists lie.
-use Rattle.std.proofs.Common.{◌≡◌, ℕ, zero, suc, ◌+◌, ◌*◌, ◌<◌, ◌≤◌, List, [], ◌∷◌, ◌++◌, length, map, Option, Some, None, Bool, true, false, refl, sym, ap, ◌∙◌, subst, arith, add-zero, zero-add, cond}
-use Rattle.std.specs.Prelude.{◌==◌, ◌&&◌, nat_le, find, if◌then◌else◌}
+use Rattle.std.proofs.Common.{◌≡◌, ℕ, ◌+◌, ◌*◌, ◌<◌, ◌≤◌, List, [], ◌∷◌, ◌++◌, length, map, Option, Some, None, Bool, true, false, refl, sym, ap, ◌∙◌, subst, arith, zero-add, cond}
+use Rattle.std.specs.Prelude.{◌==◌, nat_le, find, if◌then◌else◌}
 use Rattle.std.specs.List.{All}
 use Rattle.std.proofs.lemmas.Bool.Decides.{nat_tests}
 use Rattle.std.proofs.lemmas.List.Elements.{All-head, All-tail}
@@ -10,7 +10,9 @@ use Rattle.pi_format.specs.Rules.Entries.{each_from}
 use Rattle.pi_format.specs.Rules.CodeItems.{HandlerList, TryRange, CodeHead, code_head, code_lies, tries_at, lists_at, try_range, range_holds, ranges_hold}
 use Rattle.pi_format.specs.Says.Names.{Named}
 use Rattle.pi_format.specs.Says.Codes.{typed_catch, last_catch, range_catches, catches_at}
-use Rattle.pi_dexcode.proofs.Walks.{units_inside}
+use Rattle.pi_format.proofs.Held.{both}
+use Rattle.pi_codeitem.proofs.Items.{code_in_file}
+use Rattle.pi_codeitem.proofs.Served.{each_holds}
 
 -- the entries of a range by the list that was found
 abbrev pub found_catches : Named → TryRange → Option HandlerList → List Catch
@@ -34,21 +36,6 @@ catches_found n at head lists k place r o is there found =
     ∙ catches_by_find n r lists place
     ∙ ap (found_catches n r) (sym found)
 
-and_left : (a b : Bool) → (a && b) ≡ true → a ≡ true
-and_left true b e = refl
-and_left false b e = cc
-
-and_right : (a b : Bool) → (a && b) ≡ true → b ≡ true
-and_right true b e = e
-and_right false b e = cc
-
-each_holds : (test : ℕ → Bool) (i n : ℕ) → each_from test i n ≡ true → (k : ℕ) → k < n → test (i + k) ≡ true
-each_holds test i zero e k lt = absurd (omega arith)
-each_holds test i (suc n) e zero lt = rw (add-zero i) (and_left (test i) (each_from test (i + 1) n) e)
-each_holds test i (suc n) e (suc k) lt =
-    let place : i + 1 + k ≡ i + suc k = omega arith in
-    subst (λ j. test j ≡ true) place (each_holds test (i + 1) n (and_right (test i) (each_from test (i + 1) n) e) k (omega arith))
-
 le_true : (a b : ℕ) → nat_le a b ≡ true → a ≤ b
 le_true a b e = grind (arith, nat_tests)
 
@@ -56,16 +43,16 @@ le_true a b e = grind (arith, nat_tests)
 pub range_ends : (file : List ℕ) (at : ℕ) (head : CodeHead) (k : ℕ) → ranges_hold file at head ≡ true → k < head.tries
     → (try_range file (tries_at at head) k).from + (try_range file (tries_at at head) k).size ≤ head.units
 range_ends file at head k hold lt =
-    let each = and_right (nat_le (tries_at at head + 8 * head.tries) (length file)) (each_from (range_holds file (tries_at at head) head.units) 0 head.tries) hold in
+    let each = (both (nat_le (tries_at at head + 8 * head.tries) (length file)) (each_from (range_holds file (tries_at at head) head.units) 0 head.tries) hold).1 in
     let this = subst (λ (j : ℕ). range_holds file (tries_at at head) head.units j ≡ true) (zero-add k) (each_holds (range_holds file (tries_at at head) head.units) 0 head.tries each k lt) in
-    le_true ((try_range file (tries_at at head) k).from + (try_range file (tries_at at head) k).size) head.units (and_left (nat_le ((try_range file (tries_at at head) k).from + (try_range file (tries_at at head) k).size) head.units) _ this)
+    le_true ((try_range file (tries_at at head) k).from + (try_range file (tries_at at head) k).size) head.units (both (nat_le ((try_range file (tries_at at head) k).from + (try_range file (tries_at at head) k).size) head.units) _ this).0
 
 pub range_small : (file : List ℕ) (at : ℕ) (head : CodeHead) (k : ℕ) → length file ≤ 16777216 → code_lies file at ≡ true → head ≡ code_head file at → ranges_hold file at head ≡ true
     → k < head.tries → (try_range file (tries_at at head) k).from + (try_range file (tries_at at head) k).size < 4294967296
 range_small file at head k few lies is hold lt =
     let units : head.units ≡ word_at file (at + 12) = ap (λ (h : CodeHead). h.units) is in
     below ((try_range file (tries_at at head) k).from + (try_range file (tries_at at head) k).size) head.units (word_at file (at + 12)) at (length file)
-    (range_ends file at head k hold lt) units (units_inside file at lies) few
+    (range_ends file at head k hold lt) units (code_in_file file at lies) few
   where
     below : (end units word at n : ℕ) → end ≤ units → units ≡ word → at + 16 + 2 * word ≤ n → n ≤ 16777216 → end < 4294967296
     below end units word at n le is inside few = omega arith

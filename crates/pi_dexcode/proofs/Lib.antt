@@ -3,7 +3,7 @@ mod Listing
 mod Items
 mod Payloads
 mod Catches
-mod Types
-mod Walks
+pub mod Types
+pub mod Walks
 mod Noting
 mod Mapped

@@ -1,39 +1,21 @@
 -- Payloads that stand in units stand whole.
-use Rattle.std.proofs.Common.{◌≡◌, ◌⊎◌, inl, inr, ℕ, zero, suc, ◌+◌, ◌*◌, ◌≤◌, List, [], ◌∷◌, length, take, drop, Option, Some, None, Bool, true, false, refl, sym, ap, ◌∙◌, arith, subst}
+use Rattle.std.proofs.Common.{◌≡◌, ◌⊎◌, inl, inr, ℕ, ◌+◌, ◌*◌, ◌≤◌, List, [], ◌∷◌, length, take, drop, Option, Some, None, Bool, true, false, refl, sym, ◌∙◌, arith, subst}
 use Rattle.std.specs.Prelude.{◌==◌, nat_lt, if◌then◌else◌}
 use Rattle.std.proofs.lemmas.Bool.Decides.{nat_tests}
+use Rattle.std.proofs.lemmas.List.{length-drop, length-take, length-take-le}
 use Rattle.pi_insn.specs.Numbers.{signed_number, word}
 use Rattle.pi_insn.specs.Payloads.{Data, PackedData, SparseData, ArrayData, packed_data, sparse, is_width, units_for, array, payload}
 use Rattle.pi_dexcode.specs.Whole.{IsWhole}
+use Rattle.pi_dexcode.proofs.Types.{if_held}
 
 unless_true : {A : Type 0} (b : Bool) (x y : A) → (if b then None else Some x) ≡ Some y → (b ≡ false) × (x ≡ y)
 unless_true true x y e = cc
 unless_true false x y e = (refl, cc)
 
-shorter : (n : ℕ) (xs : List ℕ) → length (take n xs) ≤ length xs
-shorter zero xs = omega arith
-shorter (suc n) [] = omega arith
-shorter (suc n) (x ∷ xs) = omega (arith, shorter n xs)
-
-shorter_rest : (n : ℕ) (xs : List ℕ) → length (drop n xs) ≤ length xs
-shorter_rest zero xs = omega arith
-shorter_rest (suc n) [] = omega arith
-shorter_rest (suc n) (x ∷ xs) = omega (arith, shorter_rest n xs)
-
-as_long : (n : ℕ) (xs : List ℕ) → n ≤ length xs → length (take n xs) ≡ n
-as_long zero xs le = refl
-as_long (suc n) [] le = absurd (omega arith)
-as_long (suc n) (x ∷ xs) le = ap suc (as_long n xs (omega (arith, le)))
-
-rest_long : (n m : ℕ) (xs : List ℕ) → n + m ≤ length xs → m ≤ length (drop n xs)
-rest_long zero m xs le = omega (arith, le)
-rest_long (suc n) m [] le = omega (arith, le)
-rest_long (suc n) m (x ∷ xs) le = rest_long n m xs (omega (arith, le))
-
 packed_whole : (size : ℕ) (rest : List ℕ) (d : Data) → length rest ≤ 16777216 → packed_data size rest ≡ Some d → IsWhole d
 packed_whole size rest d few e =
     let is = (unless_true (nat_lt (length rest) (2 + 2 * size)) (PackedData (signed_number 2147483648 (word rest 0)) (take (2 * size) (drop 2 rest))) d e).1 in
-    subst IsWhole is (record { few = omega (arith, few, shorter (2 * size) (drop 2 rest), shorter_rest 2 rest) })
+    subst IsWhole is (record { few = omega (arith, few, length-take (2 * size) (drop 2 rest), length-drop 2 rest) })
 
 not_less : (a b : ℕ) → nat_lt a b ≡ false → b ≤ a
 not_less a b e = grind (arith, nat_tests)
@@ -42,8 +24,8 @@ sparse_whole : (size : ℕ) (rest : List ℕ) (d : Data) → sparse size rest �
 sparse_whole size rest d e =
     let both = unless_true (nat_lt (length rest) (4 * size)) (SparseData (take (2 * size) rest) (take (2 * size) (drop (2 * size) rest))) d e in
     let long = not_less (length rest) (4 * size) both.0 in
-    let keys : length (take (2 * size) rest) ≡ 2 * size = as_long (2 * size) rest (omega (arith, long)) in
-    let targets : length (take (2 * size) (drop (2 * size) rest)) ≡ 2 * size = as_long (2 * size) (drop (2 * size) rest) (rest_long (2 * size) (2 * size) rest (omega (arith, long))) in
+    let keys : length (take (2 * size) rest) ≡ 2 * size = length-take-le (2 * size) rest (omega (arith, long)) in
+    let targets : length (take (2 * size) (drop (2 * size) rest)) ≡ 2 * size = length-take-le (2 * size) (drop (2 * size) rest) (omega (arith, long, length-drop (2 * size) rest)) in
     subst IsWhole both.1 (record { same = keys ∙ sym targets })
 
 widths : (n : ℕ) → is_width n ≡ true → (n ≡ 1) ⊎ ((n ≡ 2) ⊎ ((n ≡ 4) ⊎ (n ≡ 8)))
@@ -54,10 +36,6 @@ widths n e = by_tests (n == 1) (n == 2) (n == 4) refl refl refl
     by_tests false true c f g h = inr (inl (grind (arith, nat_tests)))
     by_tests false false true f g h = inr (inr (inl (grind (arith, nat_tests))))
     by_tests false false false f g h = inr (inr (inr (grind (arith, nat_tests))))
-
-if_true : {A : Type 0} (b : Bool) (x : Option A) (y : A) → (if b then x else None) ≡ Some y → (b ≡ true) × (x ≡ Some y)
-if_true true x y e = (refl, e)
-if_true false x y e = cc
 
 if_false : {A : Type 0} (b : Bool) (x : Option A) (y : A) → (if b then None else x) ≡ Some y → (b ≡ false) × (x ≡ Some y)
 if_false true x y e = cc
@@ -70,11 +48,11 @@ array_whole : (width : ℕ) (rest : List ℕ) (d : Data) → array width rest �
 array_whole width rest d e =
     let n = units_for (width * word rest 0) in
     let x = ArrayData width (word rest 0) (take n (drop 2 rest)) in
-    let a = if_true (is_width width) (if nat_lt (length rest) 2 then None else if nat_lt (length rest) (2 + n) then None else Some x) d e in
+    let a = if_held (is_width width) (if nat_lt (length rest) 2 then None else if nat_lt (length rest) (2 + n) then None else Some x) d e in
     let b = if_false (nat_lt (length rest) 2) (if nat_lt (length rest) (2 + n) then None else Some x) d a.1 in
     let c = unless_true (nat_lt (length rest) (2 + n)) x d b.1 in
     let long = not_less (length rest) (2 + n) c.0 in
-    let items : length (take n (drop 2 rest)) ≡ n = as_long n (drop 2 rest) (rest_long 2 n rest (omega (arith, long))) in
+    let items : length (take n (drop 2 rest)) ≡ n = length-take-le n (drop 2 rest) (omega (arith, long, length-drop 2 rest)) in
     subst IsWhole c.1 (record { known = widths width a.0; whole = omega (arith, half_enough (width * word rest 0), items) })
 
 pub if_either : {A : Type 0} (b : Bool) (x y z : Option A) → (if b then x else y) ≡ z → (x ≡ z) ⊎ (y ≡ z)

@@ -17,7 +17,7 @@ bind_some : {A B : Type 0} (o : Option A) (f : A → Option B) (r : B) → (o >>
 bind_some None f r e = cc
 bind_some (Some x) f r e = (x, refl, e)
 
-if_held : {B : Type 0} (b : Bool) (x : Option B) (r : B) → (if b then x else None) ≡ Some r → (b ≡ true) × (x ≡ Some r)
+pub if_held : {B : Type 0} (b : Bool) (x : Option B) (r : B) → (if b then x else None) ≡ Some r → (b ≡ true) × (x ≡ Some r)
 if_held true x r e = (refl, e)
 if_held false x r e = cc
 

@@ -1,8 +1,7 @@
 -- The payloads of a walk stand whole, and the indices of its instructions are there.
-use Rattle.std.proofs.Common.{◌≡◌, ℕ, zero, suc, ◌+◌, ◌*◌, ◌<◌, ◌≤◌, List, [], ◌∷◌, length, drop, Option, Some, None, Result, Ok, Err, Bool, true, false, refl, sym, ap, ◌⊎◌, inl, inr, arith, subst, length-drop}
-use Rattle.std.specs.Prelude.{◌%◌, ◌==◌, ℤ, pos, ◌+ℤ◌, if◌then◌else◌}
+use Rattle.std.proofs.Common.{◌≡◌, ℕ, zero, suc, ◌+◌, ◌<◌, ◌≤◌, List, [], ◌∷◌, length, drop, Option, Some, None, Result, Ok, Err, Bool, true, refl, sym, ap, ◌⊎◌, inl, inr, arith, subst, length-drop}
+use Rattle.std.specs.Prelude.{◌%◌, ◌==◌, ℤ, pos, ◌+ℤ◌}
 use Rattle.std.specs.List.{All}
-use Rattle.std.proofs.lemmas.Bool.Decides.{nat_tests}
 use Rattle.std.proofs.lemmas.List.Elements.{All-nil, All-cons, All-head, All-tail}
 use Rattle.pi_insn.specs.declared.raw.RawInsn.{RawInsn}
 use Rattle.pi_insn.specs.declared.raw.InsnError.{InsnError}
@@ -11,6 +10,8 @@ use Rattle.pi_insn.specs.Payloads.{Data, payload}
 use Rattle.pi_bytes.specs.Numbers.{word_at, halves_at}
 use Rattle.pi_format.specs.Rules.CodeItems.{code_lies}
 use Rattle.pi_format.specs.Rules.Pieces.{Piece, address, payload_found, found_at, payload_of, What, Instruction, Payload, Walk, payload_units, front_piece, with_piece, walk_from, walk, code_units, first_insn, index_holds}
+use Rattle.pi_format.proofs.Loops.{none_first}
+use Rattle.pi_codeitem.proofs.Items.{code_in_file}
 use Rattle.pi_dexcode.specs.Whole.{IsWhole, WhatIsWhole, AreWhole, WhatIsThere, NamesIndex}
 use Rattle.pi_dexcode.proofs.Payloads.{payload_whole, if_either}
 
@@ -96,24 +97,16 @@ pub pointed_whole : (pieces : List Piece) (at : ℕ) (dist : ℤ) (d : Data) →
 pointed_whole pieces at dist d whole e = place_whole pieces (address (pos at +ℤ dist)) d whole e
 
 -- as many units as the head says, which are in the file
-halves_long : (file : List ℕ) (at n : ℕ) → length (halves_at file at n) ≡ n
+pub halves_long : (file : List ℕ) (at n : ℕ) → length (halves_at file at n) ≡ n
 halves_long file at zero = refl
 halves_long file at (suc n) = ap suc (halves_long file (at + 2) n)
 
-pub units_inside : (file : List ℕ) (at : ℕ) → code_lies file at ≡ true → at + 16 + 2 * word_at file (at + 12) ≤ length file
-unfolding code_lies
-units_inside file at lies = grind (arith, nat_tests)
-
 pub units_short : (file : List ℕ) (at : ℕ) → length file ≤ 16777216 → code_lies file at ≡ true → length (code_units file at) ≤ 16777216
-units_short file at few lies = omega (arith, few, units_inside file at lies, halves_long file (at + 16) (word_at file (at + 12)))
+units_short file at few lies = omega (arith, few, code_in_file file at lies, halves_long file (at + 16) (word_at file (at + 12)))
 
 -- where no instruction has an index that is not there, each has one that is
 abbrev pub has_index : List ℕ → ℕ → RawInsn → Bool
 has_index file at i = index_holds file i.body
-
-none_first : (b : Bool) (at : ℕ) (later : Option ℕ) → (if b then later else Some at) ≡ None → (b ≡ true) × (later ≡ None)
-none_first true at later e = (refl, e)
-none_first false at later e = cc
 
 index_there : (file : List ℕ) (at units : ℕ) (w : What) (ps : List Piece) → first_insn (has_index file) (piece at units w ∷ ps) ≡ None
     → WhatIsThere file w × (first_insn (has_index file) ps ≡ None)

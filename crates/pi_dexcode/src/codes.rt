@@ -10,11 +10,11 @@ ghost use Rattle.pi_format.specs.Says.Codes.{line_of, lines_of, typed_catch, las
 ghost use Rattle.pi_dexcode.specs.Whole.{AreWhole, NamesTypes, AllNameTypes, NamesIndex};
 
 use crate::insns::insn_of;
+use crate::named::Named;
 use pi_codeitem::{
     CodeHead, Handler, HandlerList, HandlerLists, Piece, TryRange, Walk, What, handlers, head,
     lists_at, ranges_stand, try_range, units, walk,
 };
-use crate::named::Named;
 use pi_model::describe::{Catch, Code, Insns, Line, Tries};
 use std::alloc::{AllocError, Global};
 

@@ -6,7 +6,8 @@ ghost use Rattle.pi_format.specs.Rules.Lowest.{tabulation};
 ghost use Rattle.pi_format.specs.Says.Insns.{case_target, item_of, cases_of, width_of, items_of};
 ghost use Rattle.pi_dexcode.specs.Whole.{IsWhole, IsItems, packed_case, sparse_case};
 
-use crate::numbers::{signed, target, word, word_of};
+use crate::numbers::{target, word_of};
+use pi_codeitem::{signed, word};
 use pi_insn::Payload;
 use pi_model::insn::{Case, Cases, Items};
 use std::alloc::{AllocError, Global};

@@ -1,15 +1,17 @@
 // Instructions with names in place of indices, addresses in place of distances, and the data that they point at.
 
-ghost use Rattle.std.specs.Prelude.{◌≡◌, ◌<◌, true, IfOk};
-ghost use Rattle.pi_format.specs.Rules.Pieces.{index_holds, payload_of};
+ghost use Rattle.std.specs.Prelude.{◌≡◌, ◌<◌, ℕ, List, true, IfOk};
+ghost use Rattle.pi_format.specs.Rules.Pieces.{Piece, index_holds, payload_of};
+ghost use Rattle.pi_format.specs.Says.Names;
 ghost use Rattle.pi_format.specs.Says.Insns.{cases_of, items_of, width_of, insn_of};
+ghost use Rattle.pi_dexcode.specs.Groups.{is_jump, is_of_field, is_of_name};
 ghost use Rattle.pi_dexcode.specs.Whole.{AreWhole};
 
 use crate::data::{cases, items, width};
+use crate::named::Named;
 use crate::numbers::target;
 use crate::regs::regs_of;
 use pi_codeitem::Walk;
-use crate::named::Named;
 use pi_insn::RawBody;
 use pi_model::insn::{Cases, Insn, Items};
 use std::alloc::{AllocError, Global};
@@ -56,6 +58,103 @@ fn fill_array(
     }
 }
 
+/// A jump, whose target is an address.
+#[tactic(auto, unfolding(pi_format::specs::Says::Insns::insn_of))]
+fn jump(at: u32, body: &RawBody) -> Insn
+    requires { is_jump body.now ≡ true }
+    ensures { (n : Names.Named) (pieces : List Piece) → result ≡ insn_of n pieces at body.now }
+{
+    match *body {
+        RawBody::Goto { dist } => Insn::Goto {
+            to: target(at, dist),
+        },
+        RawBody::If { cond, a, b, dist } => Insn::If {
+            cond,
+            a,
+            b,
+            to: target(at, dist),
+        },
+        RawBody::IfZ { cond, a, dist } => Insn::IfZ {
+            cond,
+            a,
+            to: target(at, dist),
+        },
+        _ => unreachable!(),
+    }
+}
+
+/// An instruction on a field.
+#[tactic(auto, unfolding(pi_format::specs::Says::Insns::insn_of), using(std::proofs::lemmas::Bool::Decides::nat_tests))]
+fn of_field(names: &Named<'_>, body: &RawBody) -> Insn
+    requires field { is_of_field body.now ≡ true }
+    requires indices { index_holds names.now.file body.now ≡ true }
+    ensures { (pieces : List Piece) (at : ℕ) → result ≡ insn_of names.now pieces at body.now }
+{
+    match *body {
+        RawBody::Iget { kind, a, b, f } => Insn::Iget {
+            kind,
+            a,
+            b,
+            f: names.field_ref(f),
+        },
+        RawBody::Iput { kind, a, b, f } => Insn::Iput {
+            kind,
+            a,
+            b,
+            f: names.field_ref(f),
+        },
+        RawBody::Sget { kind, a, f } => Insn::Sget {
+            kind,
+            a,
+            f: names.field_ref(f),
+        },
+        RawBody::Sput { kind, a, f } => Insn::Sput {
+            kind,
+            a,
+            f: names.field_ref(f),
+        },
+        _ => unreachable!(),
+    }
+}
+
+/// An instruction on a string or a type.
+#[tactic(auto, unfolding(pi_format::specs::Says::Insns::insn_of), using(std::proofs::lemmas::Bool::Decides::nat_tests))]
+fn of_name(names: &Named<'_>, body: &RawBody) -> Insn
+    requires name { is_of_name body.now ≡ true }
+    requires indices { index_holds names.now.file body.now ≡ true }
+    ensures { (pieces : List Piece) (at : ℕ) → result ≡ insn_of names.now pieces at body.now }
+{
+    match *body {
+        RawBody::ConstString { a, s } => Insn::ConstString {
+            a,
+            s: names.string_name(s),
+        },
+        RawBody::ConstClass { a, t } => Insn::ConstClass {
+            a,
+            t: names.type_name(t),
+        },
+        RawBody::CheckCast { a, t } => Insn::CheckCast {
+            a,
+            t: names.type_name(t),
+        },
+        RawBody::InstanceOf { a, b, t } => Insn::InstanceOf {
+            a,
+            b,
+            t: names.type_name(t),
+        },
+        RawBody::NewInstance { a, t } => Insn::NewInstance {
+            a,
+            t: names.type_name(t),
+        },
+        RawBody::NewArray { a, b, t } => Insn::NewArray {
+            a,
+            b,
+            t: names.type_name(t),
+        },
+        _ => unreachable!(),
+    }
+}
+
 /// The instruction at an address, among the pieces of its code.
 #[tactic(auto, unfolding(pi_format::specs::Says::Insns::insn_of), using(std::proofs::lemmas::Bool::Decides::nat_tests))]
 pub(crate) fn insn_of(
@@ -69,128 +168,43 @@ pub(crate) fn insn_of(
     requires indices { index_holds names.now.file body.now ≡ true }
     ensures { IfOk result (λ insn. insn ≡ insn_of names.now walk.now.pieces at body.now) }
 {
-    match body {
-        RawBody::Nop => Ok(Insn::Nop),
-        RawBody::Move { kind, a, b } => Ok(Insn::Move {
-            kind: *kind,
-            a: *a,
-            b: *b,
-        }),
-        RawBody::MoveResult { k, a } => Ok(Insn::MoveResult { k: *k, a: *a }),
-        RawBody::MoveException { a } => Ok(Insn::MoveException { a: *a }),
-        RawBody::ReturnVoid => Ok(Insn::ReturnVoid),
-        RawBody::Return { k, a } => Ok(Insn::Return { k: *k, a: *a }),
-        RawBody::Const { a, v } => Ok(Insn::Const { a: *a, v: *v }),
-        RawBody::ConstWide { a, v } => Ok(Insn::ConstWide { a: *a, v: *v }),
-        RawBody::ConstString { a, s } => Ok(Insn::ConstString {
-            a: *a,
-            s: names.string_name(*s),
-        }),
-        RawBody::ConstClass { a, t } => Ok(Insn::ConstClass {
-            a: *a,
-            t: names.type_name(*t),
-        }),
-        RawBody::Monitor { a } => Ok(Insn::Monitor { a: *a }),
-        RawBody::CheckCast { a, t } => Ok(Insn::CheckCast {
-            a: *a,
-            t: names.type_name(*t),
-        }),
-        RawBody::InstanceOf { a, b, t } => Ok(Insn::InstanceOf {
-            a: *a,
-            b: *b,
-            t: names.type_name(*t),
-        }),
-        RawBody::ArrayLength { a, b } => Ok(Insn::ArrayLength { a: *a, b: *b }),
-        RawBody::NewInstance { a, t } => Ok(Insn::NewInstance {
-            a: *a,
-            t: names.type_name(*t),
-        }),
-        RawBody::NewArray { a, b, t } => Ok(Insn::NewArray {
-            a: *a,
-            b: *b,
-            t: names.type_name(*t),
-        }),
-        RawBody::Filled { t, regs } => Ok(Insn::Filled {
-            t: names.type_name(*t),
+    Ok(match *body {
+        RawBody::Nop => Insn::Nop,
+        RawBody::Move { kind, a, b } => Insn::Move { kind, a, b },
+        RawBody::MoveResult { k, a } => Insn::MoveResult { k, a },
+        RawBody::MoveException { a } => Insn::MoveException { a },
+        RawBody::ReturnVoid => Insn::ReturnVoid,
+        RawBody::Return { k, a } => Insn::Return { k, a },
+        RawBody::Const { a, v } => Insn::Const { a, v },
+        RawBody::ConstWide { a, v } => Insn::ConstWide { a, v },
+        RawBody::Monitor { a } => Insn::Monitor { a },
+        RawBody::ArrayLength { a, b } => Insn::ArrayLength { a, b },
+        RawBody::Throw { a } => Insn::Throw { a },
+        RawBody::CmpLong { a, b, c } => Insn::CmpLong { a, b, c },
+        RawBody::Aget { kind, a, b, c } => Insn::Aget { kind, a, b, c },
+        RawBody::Aput { kind, a, b, c } => Insn::Aput { kind, a, b, c },
+        RawBody::Unary { op, a, b } => Insn::Unary { op, a, b },
+        RawBody::Binary { op, a, b, c } => Insn::Binary { op, a, b, c },
+        RawBody::BinaryLit { op, a, b, v } => Insn::BinaryLit { op, a, b, v },
+        RawBody::FillArray { a, dist } => fill_array(alloc, walk, at, a, dist)?,
+        RawBody::Switch { a, dist } => switch(alloc, walk, at, a, dist)?,
+        RawBody::Filled { t, ref regs } => Insn::Filled {
+            t: names.type_name(t),
             regs: regs_of(alloc, regs)?,
-        }),
-        RawBody::FillArray { a, dist } => fill_array(alloc, walk, at, *a, *dist),
-        RawBody::Throw { a } => Ok(Insn::Throw { a: *a }),
-        RawBody::Goto { dist } => Ok(Insn::Goto {
-            to: target(at, *dist),
-        }),
-        RawBody::Switch { a, dist } => switch(alloc, walk, at, *a, *dist),
-        RawBody::CmpLong { a, b, c } => Ok(Insn::CmpLong {
-            a: *a,
-            b: *b,
-            c: *c,
-        }),
-        RawBody::If { cond, a, b, dist } => Ok(Insn::If {
-            cond: *cond,
-            a: *a,
-            b: *b,
-            to: target(at, *dist),
-        }),
-        RawBody::IfZ { cond, a, dist } => Ok(Insn::IfZ {
-            cond: *cond,
-            a: *a,
-            to: target(at, *dist),
-        }),
-        RawBody::Aget { kind, a, b, c } => Ok(Insn::Aget {
-            kind: *kind,
-            a: *a,
-            b: *b,
-            c: *c,
-        }),
-        RawBody::Aput { kind, a, b, c } => Ok(Insn::Aput {
-            kind: *kind,
-            a: *a,
-            b: *b,
-            c: *c,
-        }),
-        RawBody::Iget { kind, a, b, f } => Ok(Insn::Iget {
-            kind: *kind,
-            a: *a,
-            b: *b,
-            f: names.field_ref(*f),
-        }),
-        RawBody::Iput { kind, a, b, f } => Ok(Insn::Iput {
-            kind: *kind,
-            a: *a,
-            b: *b,
-            f: names.field_ref(*f),
-        }),
-        RawBody::Sget { kind, a, f } => Ok(Insn::Sget {
-            kind: *kind,
-            a: *a,
-            f: names.field_ref(*f),
-        }),
-        RawBody::Sput { kind, a, f } => Ok(Insn::Sput {
-            kind: *kind,
-            a: *a,
-            f: names.field_ref(*f),
-        }),
-        RawBody::Invoke { how, m, regs } => Ok(Insn::Invoke {
-            how: *how,
-            m: names.method_ref(alloc, *m)?,
+        },
+        RawBody::Invoke { how, m, ref regs } => Insn::Invoke {
+            how,
+            m: names.method_ref(alloc, m)?,
             regs: regs_of(alloc, regs)?,
-        }),
-        RawBody::Unary { op, a, b } => Ok(Insn::Unary {
-            op: *op,
-            a: *a,
-            b: *b,
-        }),
-        RawBody::Binary { op, a, b, c } => Ok(Insn::Binary {
-            op: *op,
-            a: *a,
-            b: *b,
-            c: *c,
-        }),
-        RawBody::BinaryLit { op, a, b, v } => Ok(Insn::BinaryLit {
-            op: *op,
-            a: *a,
-            b: *b,
-            v: *v,
-        }),
-    }
+        },
+        RawBody::Goto { .. } | RawBody::If { .. } | RawBody::IfZ { .. } => jump(at, body),
+        RawBody::Iget { .. } | RawBody::Iput { .. } | RawBody::Sget { .. } | RawBody::Sput { .. } =>
+            of_field(names, body),
+        RawBody::ConstString { .. }
+        | RawBody::ConstClass { .. }
+        | RawBody::CheckCast { .. }
+        | RawBody::InstanceOf { .. }
+        | RawBody::NewInstance { .. }
+        | RawBody::NewArray { .. } => of_name(names, body),
+    })
 }
