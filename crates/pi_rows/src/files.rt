@@ -8,6 +8,7 @@
 //   length, sign, sum     the last file says its length; its signature is made anew; its checksum is
 use crate::fault::Fault;
 use crate::words::{bytes_of, copies, copies_of, halves, word_of};
+use pi_bytes::sums::adler32;
 use sha1::Sha1;
 use std::alloc::Global;
 use std::fs;
@@ -65,11 +66,11 @@ fn alter(alloc: Global, file: &mut Vec<u8>, verb: &str, rest: &str) -> Result<()
             write_over(file, 32, &length.to_le_bytes())
         }
         "sign" => {
-            let digest = Sha1::digest(behind(file.as_slice(), 32)?);
+            let digest = Sha1::digest(tail(file.as_slice(), 32)?);
             write_over(file, 12, &digest)
         }
         "sum" => {
-            let sum = adler32(behind(file.as_slice(), 12)?);
+            let sum = adler32(tail(file.as_slice(), 12)?);
             write_over(file, 8, &sum.to_le_bytes())
         }
         _ => Err(Fault::NoRow),
@@ -112,20 +113,9 @@ fn write_over(file: &mut Vec<u8>, at: usize, bytes: &[u8]) -> Result<(), Fault> 
 }
 
 /// The bytes of a file from a place on.
-fn behind(file: &[u8], place: usize) -> Result<&[u8], Fault> {
+fn tail(file: &[u8], place: usize) -> Result<&[u8], Fault> {
     match file.split_at_checked(place) {
         Some((_, rest)) => Ok(rest),
         None => Err(Fault::NoRow),
     }
-}
-
-/// Two sums modulo 65521.
-fn adler32(bytes: &[u8]) -> u32 {
-    let mut low: u32 = 1;
-    let mut high: u32 = 0;
-    for byte in bytes {
-        low = low.wrapping_add(u32::from(*byte)) % 65521;
-        high = high.wrapping_add(low) % 65521;
-    }
-    high << 16 | low
 }
