@@ -41,58 +41,38 @@ readable_some : {A : Type 0} (r : Result A ReadFault) (x : A) → readable r ≡
 readable_some (Ok y) x e = cc
 readable_some (Err fault) x e = cc
 
--- a number that was read has so many bytes
-number_small : (n : ℕ) (p : Place) (x : ℕ × Place) → AreBytes p.bytes → number_at n p ≡ Ok x → x.0 < 256 ^ n
-number_small n p x are e = by_test (nat_le n (length (ahead p))) e
+-- a number that was read has so many bytes, and the place behind it is in the same bytes
+number_read : (n : ℕ) (p : Place) (x : ℕ × Place) → AreBytes p.bytes → number_at n p ≡ Ok x → (x.0 < 256 ^ n) × (x.1.bytes ≡ p.bytes)
+number_read n p x are e = by_test (nat_le n (length (ahead p))) e
   where
-    by_test : (b : Bool) → (if b then Ok (little_number n (ahead p), record { bytes = p.bytes; at = p.at + n }) else Err fault.Short) ≡ Ok x → x.0 < 256 ^ n
-    by_test true f =
-        let is : little_number n (ahead p) ≡ x.0 = cc in
-        subst (λ (m : ℕ). m < 256 ^ n) is (small_number (ahead p) (rest_are p.bytes are p.at) 0 n)
-    by_test false f = cc
-
--- a value that was read has as many bytes as its kind and argument say, and an argument of three bits
-record IsRead (v : EncodedValue) : Type 0 where
-  number : v.number < 256 ^ value_bytes v.kind v.arg
-  arg : v.arg < 8
-
-less_than_eight : (n : ℕ) → n < 256 → n / 32 < 8
-less_than_eight n lt = omega (arith, lt)
-
-one_byte : (n : ℕ) → n < 256 ^ 1 → n < 256
-one_byte n lt = omega (arith, lt)
-
-number_stays : (n : ℕ) (p : Place) (x : ℕ × Place) → number_at n p ≡ Ok x → x.1.bytes ≡ p.bytes
-number_stays n p x e = by_test (nat_le n (length (ahead p))) e
-  where
-    by_test : (b : Bool) → (if b then Ok (little_number n (ahead p), record { bytes = p.bytes; at = p.at + n }) else Err fault.Short) ≡ Ok x → x.1.bytes ≡ p.bytes
+    by_test : (b : Bool) → (if b then Ok (little_number n (ahead p), record { bytes = p.bytes; at = p.at + n }) else Err fault.Short) ≡ Ok x
+        → (x.0 < 256 ^ n) × (x.1.bytes ≡ p.bytes)
     by_test true f =
         let is : (little_number n (ahead p), record { bytes = p.bytes; at = p.at + n }) ≡ x = cc in
-        ap (λ (y : ℕ × Place). y.1.bytes) (sym is)
+        subst (λ (y : ℕ × Place). (y.0 < 256 ^ n) × (y.1.bytes ≡ p.bytes)) is (small_number (ahead p) (rest_are p.bytes are p.at) 0 n, refl)
     by_test false f = cc
 
-value_read : (p : Place) (x : EncodedValue × Place) → AreBytes p.bytes → encoded_value p ≡ Some x → IsRead x.0
+-- a value that was read has as many bytes as its kind and argument say, an argument of three bits, and the same bytes behind
+record IsRead (p : Place) (x : EncodedValue × Place) : Type 0 where
+  number : x.0.number < 256 ^ value_bytes x.0.kind x.0.arg
+  arg : x.0.arg < 8
+  stays : x.1.bytes ≡ p.bytes
+
+less_than_eight : (n : ℕ) → n < 256 ^ 1 → n / 32 < 8
+less_than_eight n lt = omega (arith, lt)
+
+value_read : (p : Place) (x : EncodedValue × Place) → AreBytes p.bytes → encoded_value p ≡ Some x → IsRead p x
 unfolding encoded_value
 value_read p x are e =
     let a = bound (readable (number_at 1 p)) _ x e in
-    let head = readable_some (number_at 1 p) a.value a.is in
-    let b = bound (readable (number_at (value_bytes (a.value.0 % 32) (a.value.0 / 32)) a.value.1)) _ x a.rest in
-    let number = readable_some (number_at (value_bytes (a.value.0 % 32) (a.value.0 / 32)) a.value.1) b.value b.is in
-    let are_behind : AreBytes a.value.1.bytes = subst AreBytes (sym (number_stays 1 p a.value head)) are in
-    let small = number_small (value_bytes (a.value.0 % 32) (a.value.0 / 32)) a.value.1 b.value are_behind number in
-    let few = less_than_eight a.value.0 (one_byte a.value.0 (number_small 1 p a.value are head)) in
-    let is : record { kind = a.value.0 % 32; arg = a.value.0 / 32; number = b.value.0 } ≡ x.0 = cc in
-    subst IsRead is (record { number = small; arg = few })
-
-value_stays : (p : Place) (x : EncodedValue × Place) → encoded_value p ≡ Some x → x.1.bytes ≡ p.bytes
-unfolding encoded_value
-value_stays p x e =
-    let a = bound (readable (number_at 1 p)) _ x e in
-    let head = readable_some (number_at 1 p) a.value a.is in
-    let b = bound (readable (number_at (value_bytes (a.value.0 % 32) (a.value.0 / 32)) a.value.1)) _ x a.rest in
-    let number = readable_some (number_at (value_bytes (a.value.0 % 32) (a.value.0 / 32)) a.value.1) b.value b.is in
-    let is : b.value.1 ≡ x.1 = cc in
-    ap (λ (q : Place). q.bytes) (sym is) ∙ (number_stays (value_bytes (a.value.0 % 32) (a.value.0 / 32)) a.value.1 b.value number ∙ number_stays 1 p a.value head)
+    let head = number_read 1 p a.value are (readable_some (number_at 1 p) a.value a.is) in
+    let bytes : ℕ = value_bytes (a.value.0 % 32) (a.value.0 / 32) in
+    let b = bound (readable (number_at bytes a.value.1)) _ x a.rest in
+    let number = number_read bytes a.value.1 b.value (subst AreBytes (sym head.1) are) (readable_some (number_at bytes a.value.1) b.value b.is) in
+    let v : EncodedValue = record { kind = a.value.0 % 32; arg = a.value.0 / 32; number = b.value.0 } in
+    let whole : EncodedValue × Place = (v, b.value.1) in
+    let is : whole ≡ x = cc in
+    subst (IsRead p) is (record { number = number.0; arg = less_than_eight a.value.0 head.0; stays = number.1 ∙ head.1 })
 
 -- the test of a value by its kind
 abbrev fits_kind : ℕ → List ℕ → List ℕ → EncodedValue → Bool
@@ -112,11 +92,11 @@ of_kind : (kind : ℕ) (file ty : List ℕ) (v : EncodedValue) → value_fits fi
 unfolding value_fits
 of_kind kind file ty v e is = sym (ap (λ (k : ℕ). fits_kind k file ty v) is) ∙ e
 
-value_sets : (file ty : List ℕ) (v : EncodedValue) → IsRead v → value_fits file ty v ≡ true → IsInit file v
-value_sets file ty v read e = record {
-  number = read.number;
+value_sets : (file ty : List ℕ) (v : EncodedValue) → v.number < 256 ^ value_bytes v.kind v.arg → v.arg < 8 → value_fits file ty v ≡ true → IsInit file v
+value_sets file ty v small arg e = record {
+  number = small;
   few = by_kind;
-  long = λ is. read.arg;
+  long = λ is. arg;
   string = λ is.
       let a = both (same_text (codes "Ljava/lang/String;") ty) (nat_lt v.arg 4 && nat_lt v.number (count_at file string_ids)) (of_kind 0x17 file ty v e is) in
       below v.number (count_at file string_ids) ((both (nat_lt v.arg 4) (nat_lt v.number (count_at file string_ids)) a.1).1);
@@ -155,8 +135,9 @@ values_set file (field ∷ fields) (suc n) p values are e =
     let b = if_held (value_fits file (field_type file field.id) a.value.0) _ values a.rest in
     let c = bound (values_from file fields n a.value.1) _ values b.1 in
     let is : a.value.0 ∷ c.value ≡ values = cc in
-    let here = value_sets file (field_type file field.id) a.value.0 (value_read p a.value are a.is) b.0 in
-    let rest = values_set file fields n a.value.1 c.value (subst AreBytes (sym (value_stays p a.value a.is)) are) c.is in
+    let read = value_read p a.value are a.is in
+    let here = value_sets file (field_type file field.id) a.value.0 read.number read.arg b.0 in
+    let rest = values_set file fields n a.value.1 c.value (subst AreBytes (sym read.stays) are) c.is in
     subst (All (IsInit file)) is (all_more (IsInit file) a.value.0 c.value here rest)
 
 uleb_stays : (p : Place) (x : ℕ × Place) → uleb_at p ≡ Ok x → x.1.bytes ≡ p.bytes
