@@ -19,22 +19,17 @@ held_first holds before m = m >>= (λ row. if is_behind before row.0.id && holds
 abbrev pub first_and_others : (MemberRow → Bool) → MemberList → ℕ → Option (MemberRow × Place) → Option (List MemberRow × Place)
 first_and_others holds list n m = m >>= (λ row. rows_from holds list n (Some row.0.id) row.1 >>= (λ others. Some (row.0 ∷ others.0, others.1)))
 
-chosen : (holds : MemberRow → Bool) (list : MemberList) (n : ℕ) (b : Bool) (row : MemberRow × Place)
-    → (if b then (rows_from holds list n (Some row.0.id) row.1 >>= (λ others. Some (row.0 ∷ others.0, others.1))) else None)
-    ≡ first_and_others holds list n (if b then Some row else None)
-chosen holds list n true row = refl
-chosen holds list n false row = refl
-
-parted : (holds : MemberRow → Bool) (list : MemberList) (n : ℕ) (before : Option ℕ) (m : Option (MemberRow × Place))
-    → (m >>= (λ row. if is_behind before row.0.id && holds row.0
-    then (rows_from holds list n (Some row.0.id) row.1 >>= (λ others. Some (row.0 ∷ others.0, others.1))) else None))
-    ≡ first_and_others holds list n (held_first holds before m)
-parted holds list n before None = refl
-parted holds list n before (Some row) = chosen holds list n (is_behind before row.0.id && holds row.0) row
+-- a test of what was read, apart from what comes behind it
+pub test_apart : {A B : Type 0} (test : A → Bool) (f : A → Option B) (m : Option A)
+    → (m >>= (λ x. if test x then f x else None)) ≡ ((m >>= (λ x. if test x then Some x else None)) >>= f)
+test_apart test f None = refl
+test_apart test f (Some x) = elim (test x) as (λ b. (if b then f x else None) ≡ ((if b then Some x else None) >>= f)) [ true ↦ refl | false ↦ refl ]
 
 rows_step : (holds : MemberRow → Bool) (list : MemberList) (n : ℕ) (before : Option ℕ) (p : Place)
     → rows_from holds list (suc n) before p ≡ first_and_others holds list n (held_first holds before (member_row list before p))
-rows_step holds list n before p = parted holds list n before (member_row list before p)
+rows_step holds list n before p =
+    test_apart (λ row. is_behind before row.0.id && holds row.0) (λ row. rows_from holds list n (Some row.0.id) row.1 >>= (λ others. Some (row.0 ∷ others.0, others.1)))
+    (member_row list before p)
 
 -- those that were read, before the others where there are any
 abbrev pub with_others : {A : Type 0} → List A → Option (List A × Place) → Option (List A × Place)

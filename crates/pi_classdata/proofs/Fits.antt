@@ -1,6 +1,5 @@
 -- Values one behind the other.
-use Rattle.std.proofs.Common.{◌≡◌, ℕ, suc, ◌+◌, ◌-◌, ◌<◌, ◌≤◌, List, [], ◌∷◌, ◌++◌, length, take, drop, get_or, Option, Some, None, Bool, true, false, refl, sym, ap, ◌∙◌, arith, add-one, drop-cons, drop_of_length-le, append_assoc}
-use Rattle.std.specs.Prelude.{if◌then◌else◌}
+use Rattle.std.proofs.Common.{◌≡◌, ℕ, suc, ◌+◌, ◌-◌, ◌<◌, ◌≤◌, List, [], ◌∷◌, ◌++◌, length, take, drop, get_or, Option, Some, None, refl, sym, ap, ◌∙◌, arith, add-one, drop-cons, drop_of_length-le, append_assoc}
 use Rattle.byteorder.specs.Endian.{little_from}
 use Rattle.byteorder.specs.Numbers.{little_from-take}
 use Rattle.pi_bytes.specs.Place.{Place}
@@ -8,6 +7,7 @@ use Rattle.pi_insn.specs.Chain.{◌>>=◌}
 use Rattle.pi_format.specs.Rules.Rows.{MemberRow}
 use Rattle.pi_format.specs.Rules.Values.{EncodedValue, encoded_value, value_fits, field_type, values_from}
 use Rattle.pi_classdata.specs.Held.{held_value}
+use Rattle.pi_classdata.proofs.Chains.{test_apart}
 
 -- the number in a piece is that in the bytes from which it is taken
 pub number_in_piece : (n : ℕ) (xs : List ℕ) → little_from 0 n (take n xs) ≡ little_from 0 n xs
@@ -22,26 +22,12 @@ with_others done (Some others) = Some (done ++ others)
 abbrev pub first_and_others : List ℕ → List MemberRow → ℕ → Option (EncodedValue × Place) → Option (List EncodedValue)
 first_and_others file fields n m = m >>= (λ value. values_from file fields n value.1 >>= (λ others. Some (value.0 ∷ others)))
 
-chosen : (file : List ℕ) (fields : List MemberRow) (n : ℕ) (b : Bool) (value : EncodedValue × Place)
-    → (if b then (values_from file fields n value.1 >>= (λ others. Some (value.0 ∷ others))) else None)
-    ≡ first_and_others file fields n (if b then Some value else None)
-chosen file fields n true value = refl
-chosen file fields n false value = refl
-
-abbrev held_first : List ℕ → MemberRow → Option (EncodedValue × Place) → Option (EncodedValue × Place)
-held_first file field m = m >>= (λ value. if value_fits file (field_type file field.id) value.0 then Some value else None)
-
-parted : (file : List ℕ) (field : MemberRow) (fields : List MemberRow) (n : ℕ) (m : Option (EncodedValue × Place))
-    → (m >>= (λ value. if value_fits file (field_type file field.id) value.0
-    then (values_from file fields n value.1 >>= (λ others. Some (value.0 ∷ others))) else None))
-    ≡ first_and_others file fields n (held_first file field m)
-parted file field fields n None = refl
-parted file field fields n (Some value) = chosen file fields n (value_fits file (field_type file field.id) value.0) value
-
 pub values_step : (file : List ℕ) (field : MemberRow) (fields : List MemberRow) (n : ℕ) (p : Place)
     → values_from file (field ∷ fields) (suc n) p ≡ first_and_others file fields n (held_value file field p)
 unfolding held_value
-values_step file field fields n p = parted file field fields n (encoded_value p)
+values_step file field fields n p =
+    test_apart (λ value. value_fits file (field_type file field.id) value.0) (λ value. values_from file fields n value.1 >>= (λ others. Some (value.0 ∷ others)))
+    (encoded_value p)
 
 behind_more : {A : Type 0} (done : List A) (x : A) (rest : Option (List A))
     → with_others (done ++ x ∷ []) rest ≡ with_others done (rest >>= (λ others. Some (x ∷ others)))

@@ -11,12 +11,13 @@ use Rattle.pi_format.specs.Tables.{count_at, string_ids, type_ids, field_ids, me
 use Rattle.pi_format.specs.Rules.Members.{member_entry}
 use Rattle.pi_format.specs.Rules.Classes.{class_entry}
 use Rattle.pi_format.specs.Rules.Rows.{MemberRow, readable}
-use Rattle.pi_format.specs.Rules.ClassData.{ClassRows, Owner, owner, class_data_at, class_values_at, no_rows, row_counts, rows_at, class_rows, rows_in, rows_of, rows_of_list, row_holds, is_field_of, is_method_of}
+use Rattle.pi_format.specs.Rules.ClassData.{ClassRows, Owner, owner, class_data_at, class_values_at, no_rows, row_counts, rows_at, class_rows, rows_in, rows_of, rows_of_list, row_holds}
 use Rattle.pi_format.specs.Rules.Strings.{type_units}
 use Rattle.pi_format.specs.Rules.Values.{EncodedValue, encoded_value, is_reference, names_reference, value_fits, field_type, values_from, values_at, class_values}
 use Rattle.pi_model.specs.Texts.{same_text}
 use Rattle.pi_bytes.specs.Leb.{uleb_at}
 use Rattle.pi_format.proofs.Held.{both, below}
+use Rattle.pi_format.proofs.Every.{all_nothing, all_more}
 use Rattle.pi_classdata.specs.There.{IsMember, AreMembers, NamesThere}
 use Rattle.pi_classdata.specs.Held.{held_value}
 use Rattle.pi_classdata.proofs.Chains.{rows_good}
@@ -73,34 +74,24 @@ all_from test P step (x ∷ xs) e (suc k) d lt = all_from test P step xs (both (
 same : (a b : ℕ) → (a == b) ≡ true → a ≡ b
 same a b e = grind (arith, nat_tests)
 
-field_member : (file : List ℕ) (class : ℕ) (row : MemberRow) (rest : Bool) → (is_field_of file class row.id && rest) ≡ true → IsMember file field_ids class row
-field_member file class row rest e =
-    let of = (both (is_field_of file class row.id) rest e).0 in
-    let parts = both (nat_lt row.id (count_at file field_ids)) ((member_entry file field_ids row.id).class == class) of in
-    record { there = below row.id (count_at file field_ids) parts.0; owned = same (member_entry file field_ids row.id).class class parts.1 }
-
-method_member : (file : List ℕ) (class : ℕ) (row : MemberRow) (rest : Bool) → (is_method_of file class row.id && rest) ≡ true → IsMember file method_ids class row
-method_member file class row rest e =
-    let of = (both (is_method_of file class row.id) rest e).0 in
-    let parts = both (nat_lt row.id (count_at file method_ids)) ((member_entry file method_ids row.id).class == class) of in
-    record { there = below row.id (count_at file method_ids) parts.0; owned = same (member_entry file method_ids row.id).class class parts.1 }
+member_of : (file : List ℕ) (table class : ℕ) (row : MemberRow) (rest : Bool)
+    → ((nat_lt row.id (count_at file table) && ((member_entry file table row.id).class == class)) && rest) ≡ true → IsMember file table class row
+member_of file table class row rest e =
+    let of = (both (nat_lt row.id (count_at file table) && ((member_entry file table row.id).class == class)) rest e).0 in
+    let parts = both (nat_lt row.id (count_at file table)) ((member_entry file table row.id).class == class) of in
+    record { there = below row.id (count_at file table) parts.0; owned = same (member_entry file table row.id).class class parts.1 }
 
 -- the lists of rows that hold have members
 pub members_of : (file : List ℕ) (o : Owner) (rows : ClassRows) → AllHold file o rows → AreMembers file o.class rows
 members_of file o rows all = record {
-  statics = all_from (row_holds file o StaticFields) (IsMember file field_ids o.class) (λ row e. field_member file o.class row _ e) rows.statics all.statics;
-  instances = all_from (row_holds file o InstanceFields) (IsMember file field_ids o.class) (λ row e. field_member file o.class row _ e) rows.instances all.instances;
-  directs = all_from (row_holds file o DirectMethods) (IsMember file method_ids o.class) (λ row e. method_member file o.class row _ e) rows.directs all.directs;
-  virtuals = all_from (row_holds file o VirtualMethods) (IsMember file method_ids o.class) (λ row e. method_member file o.class row _ e) rows.virtuals all.virtuals;
+  statics = all_from (row_holds file o StaticFields) (IsMember file field_ids o.class) (λ row e. member_of file field_ids o.class row _ e) rows.statics all.statics;
+  instances = all_from (row_holds file o InstanceFields) (IsMember file field_ids o.class) (λ row e. member_of file field_ids o.class row _ e) rows.instances all.instances;
+  directs = all_from (row_holds file o DirectMethods) (IsMember file method_ids o.class) (λ row e. member_of file method_ids o.class row _ e) rows.directs all.directs;
+  virtuals = all_from (row_holds file o VirtualMethods) (IsMember file method_ids o.class) (λ row e. member_of file method_ids o.class row _ e) rows.virtuals all.virtuals;
 }
 
 no_members : (file : List ℕ) (class : ℕ) → AreMembers file class no_rows
-no_members file class = record {
-  statics = λ k d lt. absurd (omega arith);
-  instances = λ k d lt. absurd (omega arith);
-  directs = λ k d lt. absurd (omega arith);
-  virtuals = λ k d lt. absurd (omega arith);
-}
+no_members file class = record { statics = all_nothing _; instances = all_nothing _; directs = all_nothing _; virtuals = all_nothing _ }
 
 members_if : (file : List ℕ) (o : Owner) (b : Bool) (p : Place) (rows : ClassRows) → (if b then Some no_rows else rows_at file o p) ≡ Some rows
     → AreMembers file o.class rows
@@ -143,13 +134,6 @@ value_there file ty v e = record {
   class = λ is. class_below file ty v.arg v.number (subst (λ (k : ℕ). value_fits file ty (record { kind = k; arg = v.arg; number = v.number }) ≡ true) is e);
 }
 
-none_yet : {A : Type 0} (P : A → Type 0) → All P []
-none_yet P k d lt = absurd (omega arith)
-
-one_more : {A : Type 0} (P : A → Type 0) (x : A) (xs : List A) → P x → All P xs → All P (x ∷ xs)
-one_more P x xs here rest zero d lt = here
-one_more P x xs here rest (suc k) d lt = rest k d (omega arith)
-
 held_fits : (file : List ℕ) (field : MemberRow) (m : Option (EncodedValue × Place)) (x : EncodedValue × Place)
     → (m >>= (λ value. if value_fits file (field_type file field.id) value.0 then Some value else None)) ≡ Some x
     → value_fits file (field_type file field.id) x.0 ≡ true
@@ -170,14 +154,14 @@ held_there file field p x e = value_there file (field_type file field.id) x.0 (h
 all_there : (file : List ℕ) (fields : List MemberRow) (n : ℕ) (p : Place) (vs : List EncodedValue) → values_from file fields n p ≡ Some vs → All (NamesThere file) vs
 all_there file fields zero p vs e =
     let is : [] ≡ vs = cc in
-    subst (All (NamesThere file)) is (none_yet (NamesThere file))
+    subst (All (NamesThere file)) is (all_nothing (NamesThere file))
 all_there file [] (suc n) p vs e = cc
 all_there file (field ∷ fields) (suc n) p vs e =
     let first = bound (held_value file field p) _ vs (sym (values_step file field fields n p) ∙ e) in
     let others = bound (values_from file fields n first.value.1) _ vs first.rest in
     let is : first.value.0 ∷ others.value ≡ vs = cc (others.rest) in
     subst (All (NamesThere file)) is
-    (one_more (NamesThere file) first.value.0 others.value (held_there file field p first.value first.is)
+    (all_more (NamesThere file) first.value.0 others.value (held_there file field p first.value first.is)
     (all_there file fields n first.value.1 others.value others.is))
 
 all_at : (file : List ℕ) (fields : List MemberRow) (p : Place) (vs : List EncodedValue) → values_at file fields p ≡ Some vs → All (NamesThere file) vs
@@ -190,7 +174,7 @@ all_if : (file : List ℕ) (fields : List MemberRow) (b : Bool) (p : Place) (vs 
     → All (NamesThere file) vs
 all_if file fields true p vs e =
     let is : [] ≡ vs = cc in
-    subst (All (NamesThere file)) is (none_yet (NamesThere file))
+    subst (All (NamesThere file)) is (all_nothing (NamesThere file))
 all_if file fields false p vs e = all_at file fields p vs e
 
 pub values_name : (file : List ℕ) (i : ℕ) (vs : List EncodedValue) → class_values file i ≡ Some vs → All (NamesThere file) vs

@@ -1,5 +1,5 @@
 -- Methods of files of which the rules on code hold.
-use Rattle.std.proofs.Common.{◌≡◌, ◌≢◌, ℕ, ◌<◌, List, Option, Some, None, Bool, true, false, refl, sym, ap, ◌∙◌, arith}
+use Rattle.std.proofs.Common.{◌≡◌, ◌≢◌, ℕ, ◌<◌, List, Option, Some, None, Bool, true, false, refl, sym, ap, ◌∙◌, arith, subst}
 use Rattle.std.specs.Prelude.{◌==◌, ◌&&◌, nat_lt, nat_le, is_some, if◌then◌else◌}
 use Rattle.std.specs.List.{All}
 use Rattle.std.proofs.lemmas.Bool.Decides.{nat_tests}
@@ -7,16 +7,13 @@ use Rattle.pi_format.specs.Tables.{count_at, class_defs}
 use Rattle.pi_format.specs.Rules.Header.{unless}
 use Rattle.pi_format.specs.Rules.Lowest.{lowest_of}
 use Rattle.pi_format.specs.Rules.Rows.{MemberRow}
-use Rattle.pi_format.specs.Rules.ClassData.{rows_of, methods_in}
+use Rattle.pi_format.specs.Rules.ClassData.{ClassRows, rows_of, methods_in}
 use Rattle.pi_format.specs.Rules.CodeItems.{of_code, code_head, code_lies, code_lists, code_holds, argument_words, broken_code}
 use Rattle.pi_format.specs.Rules.Pieces.{unit_of, code_walk, first_insn, index_holds, broken_index}
 use Rattle.pi_dex.specs.Judged.{code_place, index_place, CodeLies, SaysCode}
-use Rattle.pi_format.proofs.Every.{all_weaker, all_both}
+use Rattle.pi_format.proofs.Held.{both}
+use Rattle.pi_format.proofs.Every.{all_weaker, all_both, all_left, all_right}
 use Rattle.pi_dex.proofs.Lowest.{none_from, none_of}
-
-both : (a b : Bool) → (a && b) ≡ true → (a ≡ true) × (b ≡ true)
-both true b e = (refl, e)
-both false b e = cc
 
 -- with code, a place is the one of the code
 with_code : (place : MemberRow → Option ℕ) (row : MemberRow) → row.code ≢ 0 → of_code place row ≡ None → place row ≡ None
@@ -57,6 +54,12 @@ rows_lie file i e lt =
     let rows = methods_in (rows_of file i) in
     let none : lowest_of (code_place file) rows ≡ None = none_from (λ k. lowest_of (code_place file) (methods_in (rows_of file k))) (count_at file class_defs) e i lt in
     all_weaker (λ r. code_place file r ≡ None) (CodeLies file) rows (λ r f some. (row_item file r f some).lies) (none_of (code_place file) rows none)
+
+pub lists_lie : (file : List ℕ) (i : ℕ) (r : ClassRows) → r ≡ rows_of file i → broken_code file ≡ None → i < count_at file class_defs
+    → All (CodeLies file) r.directs × All (CodeLies file) r.virtuals
+lists_lie file i r is e lt =
+    let lie = subst (λ (r : ClassRows). All (CodeLies file) (methods_in r)) (sym is) (rows_lie file i e lt) in
+    (all_left (CodeLies file) r.directs r.virtuals lie, all_right (CodeLies file) r.directs r.virtuals lie)
 
 unit_none : (at : ℕ) (unit : Option ℕ) → unit_of at unit ≡ None → unit ≡ None
 unit_none at None e = refl

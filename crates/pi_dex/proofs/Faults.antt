@@ -1,5 +1,5 @@
 -- The lowest places at which three rules are broken, one after another.
-use Rattle.std.proofs.Common.{◌≡◌, ℕ, ◌+◌, ◌-◌, ◌<◌, ◌≤◌, List, ◌++◌, length, drop, get_or, Option, refl, sym}
+use Rattle.std.proofs.Common.{◌≡◌, ℕ, ◌+◌, ◌-◌, ◌<◌, ◌≤◌, List, ◌++◌, length, drop, get_or, Option, refl, sym, ◌∙◌}
 use Rattle.pi_format.specs.Rules.Lowest.{lowest_from, lowest_of}
 use Rattle.pi_format.specs.Rules.Rows.{MemberRow}
 use Rattle.pi_format.specs.Rules.ClassData.{rows_of, methods_in}
@@ -46,7 +46,11 @@ classes_go file low i n lt =
     same_three _ _ _ _ _ _ (lowest_goes (class_place walk_place file) low.walk i n lt) (lowest_goes (class_place index_place file) low.index i n lt)
     (lowest_goes (class_place payload_place file) low.payload i n lt)
 
-pub classes_done : (file : List ℕ) (low : Faults) (i n : ℕ) → n ≤ i → both_faults low (faults_from file i (n - i)) ≡ low
+classes_done : (file : List ℕ) (low : Faults) (i n : ℕ) → n ≤ i → both_faults low (faults_from file i (n - i)) ≡ low
 classes_done file low i n le =
     same_three _ _ _ _ _ _ (lowest_done (class_place walk_place file) low.walk i n le) (lowest_done (class_place index_place file) low.index i n le)
     (lowest_done (class_place payload_place file) low.payload i n le)
+
+-- the faults behind all classes are those of the file
+pub classes_found : (file : List ℕ) (low all : Faults) (i n : ℕ) → n ≤ i → both_faults low (faults_from file i (n - i)) ≡ all → low ≡ all
+classes_found file low all i n le e = sym (classes_done file low i n le) ∙ e

@@ -15,7 +15,7 @@ use Rattle.pi_dex.specs.Ready.{SaysClass, SaysClasses}
 use Rattle.pi_format.proofs.Every.{all_nothing, all_weaker, all_both, all_joined, all_left, all_right}
 use Rattle.pi_dex.proofs.Codes.{rows_say}
 use Rattle.pi_dex.proofs.Values.{inits_there}
-use Rattle.pi_dex.proofs.Units.{item_in_file}
+use Rattle.pi_codeitem.proofs.Items.{code_in_file}
 
 abbrev pub MembersLaw : Type 0
 MembersLaw = (file : List ℕ) (i : ℕ) (rows : ClassRows) → class_rows file i ≡ Some rows → AreMembers file (class_entry file i).class rows
@@ -47,7 +47,7 @@ code_small file row few says = by_test (row.code == 0) refl
     by_test true e = let none : row.code ≡ 0 = grind (arith, nat_tests) in omega (arith, none)
     by_test false e =
         let some : row.code ≢ 0 = grind (arith, nat_tests) in
-        omega (arith, few, item_in_file file row.code (says some).lies)
+        omega (arith, few, code_in_file file row.code (says some).lies)
 
 pub says_class : (file : List ℕ) (i : ℕ) → MembersLaw → AreBytes file → length file ≤ 16777216 → broken_code file ≡ None → broken_index file ≡ None
     → i < count_at file class_defs → SaysClass file i

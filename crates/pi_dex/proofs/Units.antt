@@ -2,23 +2,16 @@
 use Rattle.std.proofs.Common.{◌≡◌, ℕ, zero, suc, ◌+◌, ◌-◌, ◌*◌, ◌^◌, ◌<◌, ◌≤◌, List, [], ◌∷◌, length, drop, Option, Some, None, Bool, true, false, refl, sym, ap, ◌∙◌, arith}
 use Rattle.std.specs.Prelude.{IfSome}
 use Rattle.std.proofs.lemmas.List.{length-drop}
-use Rattle.std.proofs.lemmas.Bool.Decides.{nat_tests}
 use Rattle.pi_insn.specs.declared.raw.RawInsn.{RawInsn}
-use Rattle.pi_bytes.specs.Numbers.{word_at, halves_at}
+use Rattle.pi_bytes.specs.Numbers.{word_at}
 use Rattle.pi_format.specs.Rules.CodeItems.{code_lies}
 use Rattle.pi_format.specs.Rules.Pieces.{What, Instruction, Payload, Piece, Walk, front_piece, walk_from, walk, code_units, code_walk, first_insn, index_holds, points_well}
+use Rattle.pi_codeitem.proofs.Items.{code_in_file}
+use Rattle.pi_dexcode.proofs.Walks.{halves_long}
 use Rattle.pi_codeitem.specs.Lying.{FillUp, end_of}
 
-pub item_in_file : (file : List ℕ) (at : ℕ) → code_lies file at ≡ true → at + 16 + 2 * word_at file (at + 12) ≤ length file
-unfolding code_lies
-item_in_file file at lies = grind (arith, nat_tests)
-
-halves_length : (file : List ℕ) (at n : ℕ) → length (halves_at file at n) ≡ n
-halves_length file at zero = refl
-halves_length file at (suc n) = ap suc (halves_length file (at + 2) n)
-
 pub units_few : (file : List ℕ) (at : ℕ) → code_lies file at ≡ true → at + 16 + 2 * length (code_units file at) ≤ length file
-units_few file at lies = rw (halves_length file (at + 16) (word_at file (at + 12))) (item_in_file file at lies)
+units_few file at lies = rw (halves_long file (at + 16) (word_at file (at + 12))) (code_in_file file at lies)
 
 -- a walk stops at one of the units
 abbrev StopsBelow : ℕ → ℕ → Type 0

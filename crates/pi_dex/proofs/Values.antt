@@ -4,14 +4,12 @@ use Rattle.std.proofs.Common.{◌≡◌, ◌⊎◌, inl, inr, ℕ, zero, suc, �
 use Rattle.std.specs.Prelude.{◌==◌, ◌&&◌, ◌/◌, ◌%◌, nat_lt, nat_le, codes, slice_index, if◌then◌else◌}
 use Rattle.std.specs.List.{All}
 use Rattle.std.proofs.Math.Nat.{pow-succ'}
-use Rattle.std.proofs.lemmas.Bool.Decides.{nat_tests}
 use Rattle.byteorder.specs.Endian.{little_from, little_number}
 use Rattle.pi_bytes.specs.Place.{Place, bytes_from}
 use Rattle.pi_bytes.specs.Reading.{number_at, reading_at}
 use Rattle.pi_bytes.specs.Leb.{uleb_at, uleb_by}
 use Rattle.pi_bytes.specs.declared.fault.ReadFault.{ReadFault}
 use Rattle.pi_bytes.specs.declared.fault.ReadFault.TheVariants as fault
-use Rattle.pi_insn.specs.Chain.{◌>>=◌}
 use Rattle.pi_model.specs.Texts.{same_text}
 use Rattle.pi_format.specs.Tables.{count_at, string_ids, type_ids}
 use Rattle.pi_format.specs.Rules.Descriptors.{begins_with}
@@ -20,6 +18,9 @@ use Rattle.pi_format.specs.Rules.ClassData.{rows_of, class_values_at}
 use Rattle.pi_format.specs.Rules.Values.{EncodedValue, value_bytes, encoded_value, value_fits, is_reference, names_reference, field_type, values_from, values_at, class_values}
 use Rattle.pi_format.specs.Says.Classes.{values_in}
 use Rattle.pi_dex.specs.Judged.{AreBytes, IsInit}
+use Rattle.pi_format.proofs.Held.{both, below}
+use Rattle.pi_classdata.proofs.Members.{bound}
+use Rattle.pi_dexcode.proofs.Types.{if_held}
 use Rattle.pi_format.proofs.Every.{all_nothing, all_more}
 
 one_more_byte : (b rest power : ℕ) → b < 256 → rest < power → b + 256 * rest < 256 * power
@@ -36,72 +37,42 @@ rest_are bytes are zero k = are k
 rest_are [] are (suc n) k = are k
 rest_are (b ∷ bytes) are (suc n) k = rest_are bytes (λ j. are (suc j)) n k
 
--- what was found first, where one step follows another
-record Found {A B : Type 0} (o : Option A) (f : A → Option B) (y : B) : Type 0 where
-  x : A
-  first : o ≡ Some x
-  later : f x ≡ Some y
-
-bind_some : {A B : Type 0} (o : Option A) (f : A → Option B) (y : B) → (o >>= f) ≡ Some y → Found o f y
-bind_some None f y e = cc
-bind_some (Some x) f y e = record { x = x; first = refl; later = e }
-
 readable_some : {A : Type 0} (r : Result A ReadFault) (x : A) → readable r ≡ Some x → r ≡ Ok x
 readable_some (Ok y) x e = cc
 readable_some (Err fault) x e = cc
 
--- a number that was read has so many bytes
-number_small : (n : ℕ) (p : Place) (x : ℕ × Place) → AreBytes p.bytes → number_at n p ≡ Ok x → x.0 < 256 ^ n
-number_small n p x are e = by_test (nat_le n (length (bytes_from p))) e
+-- a number that was read has so many bytes, and the place behind it is in the same bytes
+number_read : (n : ℕ) (p : Place) (x : ℕ × Place) → AreBytes p.bytes → number_at n p ≡ Ok x → (x.0 < 256 ^ n) × (x.1.bytes ≡ p.bytes)
+number_read n p x are e = by_test (nat_le n (length (bytes_from p))) e
   where
-    by_test : (b : Bool) → (if b then Ok (little_number n (bytes_from p), record { bytes = p.bytes; at = p.at + n }) else Err fault.Short) ≡ Ok x → x.0 < 256 ^ n
-    by_test true f =
-        let is : little_number n (bytes_from p) ≡ x.0 = cc in
-        subst (λ (m : ℕ). m < 256 ^ n) is (small_number (bytes_from p) (rest_are p.bytes are p.at) 0 n)
-    by_test false f = cc
-
--- a value that was read has as many bytes as its kind and argument say, and an argument of three bits
-record IsRead (v : EncodedValue) : Type 0 where
-  number : v.number < 256 ^ value_bytes v.kind v.arg
-  arg : v.arg < 8
-
-less_than_eight : (n : ℕ) → n < 256 → n / 32 < 8
-less_than_eight n lt = omega (arith, lt)
-
-one_byte : (n : ℕ) → n < 256 ^ 1 → n < 256
-one_byte n lt = omega (arith, lt)
-
-number_stays : (n : ℕ) (p : Place) (x : ℕ × Place) → number_at n p ≡ Ok x → x.1.bytes ≡ p.bytes
-number_stays n p x e = by_test (nat_le n (length (bytes_from p))) e
-  where
-    by_test : (b : Bool) → (if b then Ok (little_number n (bytes_from p), record { bytes = p.bytes; at = p.at + n }) else Err fault.Short) ≡ Ok x → x.1.bytes ≡ p.bytes
+    by_test : (b : Bool) → (if b then Ok (little_number n (bytes_from p), record { bytes = p.bytes; at = p.at + n }) else Err fault.Short) ≡ Ok x
+        → (x.0 < 256 ^ n) × (x.1.bytes ≡ p.bytes)
     by_test true f =
         let is : (little_number n (bytes_from p), record { bytes = p.bytes; at = p.at + n }) ≡ x = cc in
-        ap (λ (y : ℕ × Place). y.1.bytes) (sym is)
+        subst (λ (y : ℕ × Place). (y.0 < 256 ^ n) × (y.1.bytes ≡ p.bytes)) is (small_number (bytes_from p) (rest_are p.bytes are p.at) 0 n, refl)
     by_test false f = cc
 
-value_read : (p : Place) (x : EncodedValue × Place) → AreBytes p.bytes → encoded_value p ≡ Some x → IsRead x.0
+-- a value that was read has as many bytes as its kind and argument say, an argument of three bits, and the same bytes behind
+record IsRead (p : Place) (x : EncodedValue × Place) : Type 0 where
+  number : x.0.number < 256 ^ value_bytes x.0.kind x.0.arg
+  arg : x.0.arg < 8
+  stays : x.1.bytes ≡ p.bytes
+
+less_than_eight : (n : ℕ) → n < 256 ^ 1 → n / 32 < 8
+less_than_eight n lt = omega (arith, lt)
+
+value_read : (p : Place) (x : EncodedValue × Place) → AreBytes p.bytes → encoded_value p ≡ Some x → IsRead p x
 unfolding encoded_value
 value_read p x are e =
-    let a = bind_some (readable (number_at 1 p)) _ x e in
-    let head = readable_some (number_at 1 p) a.x a.first in
-    let b = bind_some (readable (number_at (value_bytes (a.x.0 % 32) (a.x.0 / 32)) a.x.1)) _ x a.later in
-    let number = readable_some (number_at (value_bytes (a.x.0 % 32) (a.x.0 / 32)) a.x.1) b.x b.first in
-    let are_behind : AreBytes a.x.1.bytes = subst AreBytes (sym (number_stays 1 p a.x head)) are in
-    let small = number_small (value_bytes (a.x.0 % 32) (a.x.0 / 32)) a.x.1 b.x are_behind number in
-    let few = less_than_eight a.x.0 (one_byte a.x.0 (number_small 1 p a.x are head)) in
-    let is : record { kind = a.x.0 % 32; arg = a.x.0 / 32; number = b.x.0 } ≡ x.0 = cc in
-    subst IsRead is (record { number = small; arg = few })
-
-value_stays : (p : Place) (x : EncodedValue × Place) → encoded_value p ≡ Some x → x.1.bytes ≡ p.bytes
-unfolding encoded_value
-value_stays p x e =
-    let a = bind_some (readable (number_at 1 p)) _ x e in
-    let head = readable_some (number_at 1 p) a.x a.first in
-    let b = bind_some (readable (number_at (value_bytes (a.x.0 % 32) (a.x.0 / 32)) a.x.1)) _ x a.later in
-    let number = readable_some (number_at (value_bytes (a.x.0 % 32) (a.x.0 / 32)) a.x.1) b.x b.first in
-    let is : b.x.1 ≡ x.1 = cc in
-    ap (λ (q : Place). q.bytes) (sym is) ∙ (number_stays (value_bytes (a.x.0 % 32) (a.x.0 / 32)) a.x.1 b.x number ∙ number_stays 1 p a.x head)
+    let a = bound (readable (number_at 1 p)) _ x e in
+    let head = number_read 1 p a.value are (readable_some (number_at 1 p) a.value a.is) in
+    let bytes : ℕ = value_bytes (a.value.0 % 32) (a.value.0 / 32) in
+    let b = bound (readable (number_at bytes a.value.1)) _ x a.rest in
+    let number = number_read bytes a.value.1 b.value (subst AreBytes (sym head.1) are) (readable_some (number_at bytes a.value.1) b.value b.is) in
+    let v : EncodedValue = record { kind = a.value.0 % 32; arg = a.value.0 / 32; number = b.value.0 } in
+    let whole : EncodedValue × Place = (v, b.value.1) in
+    let is : whole ≡ x = cc in
+    subst (IsRead p) is (record { number = number.0; arg = less_than_eight a.value.0 head.0; stays = number.1 ∙ head.1 })
 
 -- the test of a value by its kind
 abbrev fits_kind : ℕ → List ℕ → List ℕ → EncodedValue → Bool
@@ -121,18 +92,11 @@ of_kind : (kind : ℕ) (file ty : List ℕ) (v : EncodedValue) → value_fits fi
 unfolding value_fits
 of_kind kind file ty v e is = sym (ap (λ (k : ℕ). fits_kind k file ty v) is) ∙ e
 
-both : (a b : Bool) → (a && b) ≡ true → (a ≡ true) × (b ≡ true)
-both true b e = (refl, e)
-both false b e = cc
-
-below : (a b : ℕ) → nat_lt a b ≡ true → a < b
-below a b e = grind (arith, nat_tests)
-
-value_sets : (file ty : List ℕ) (v : EncodedValue) → IsRead v → value_fits file ty v ≡ true → IsInit file v
-value_sets file ty v read e = record {
-  number = read.number;
+value_sets : (file ty : List ℕ) (v : EncodedValue) → v.number < 256 ^ value_bytes v.kind v.arg → v.arg < 8 → value_fits file ty v ≡ true → IsInit file v
+value_sets file ty v small arg e = record {
+  number = small;
   few = by_kind;
-  long = λ is. read.arg;
+  long = λ is. arg;
   string = λ is.
       let a = both (same_text (codes "Ljava/lang/String;") ty) (nat_lt v.arg 4 && nat_lt v.number (count_at file string_ids)) (of_kind 0x17 file ty v e is) in
       below v.number (count_at file string_ids) ((both (nat_lt v.arg 4) (nat_lt v.number (count_at file string_ids)) a.1).1);
@@ -160,10 +124,6 @@ value_sets file ty v read e = record {
         omega (arith, lt)
     by_kind (inr (inr (inr is))) = below v.arg 4 ((both (begins_with 73 ty) (nat_lt v.arg 4) (of_kind 4 file ty v e is)).1)
 
-if_some : {A : Type 0} (b : Bool) (x : Option A) (y : A) → (if b then x else None) ≡ Some y → (b ≡ true) × (x ≡ Some y)
-if_some true x y e = (refl, e)
-if_some false x y e = cc
-
 values_set : (file : List ℕ) (fields : List MemberRow) (n : ℕ) (p : Place) (values : List EncodedValue) → AreBytes p.bytes
     → values_from file fields n p ≡ Some values → All (IsInit file) values
 values_set file fields zero p values are e =
@@ -171,13 +131,14 @@ values_set file fields zero p values are e =
     subst (All (IsInit file)) is (all_nothing (IsInit file))
 values_set file [] (suc n) p values are e = cc
 values_set file (field ∷ fields) (suc n) p values are e =
-    let a = bind_some (encoded_value p) _ values e in
-    let b = if_some (value_fits file (field_type file field.id) a.x.0) _ values a.later in
-    let c = bind_some (values_from file fields n a.x.1) _ values b.1 in
-    let is : a.x.0 ∷ c.x ≡ values = cc in
-    let here = value_sets file (field_type file field.id) a.x.0 (value_read p a.x are a.first) b.0 in
-    let rest = values_set file fields n a.x.1 c.x (subst AreBytes (sym (value_stays p a.x a.first)) are) c.first in
-    subst (All (IsInit file)) is (all_more (IsInit file) a.x.0 c.x here rest)
+    let a = bound (encoded_value p) _ values e in
+    let b = if_held (value_fits file (field_type file field.id) a.value.0) _ values a.rest in
+    let c = bound (values_from file fields n a.value.1) _ values b.1 in
+    let is : a.value.0 ∷ c.value ≡ values = cc in
+    let read = value_read p a.value are a.is in
+    let here = value_sets file (field_type file field.id) a.value.0 read.number read.arg b.0 in
+    let rest = values_set file fields n a.value.1 c.value (subst AreBytes (sym read.stays) are) c.is in
+    subst (All (IsInit file)) is (all_more (IsInit file) a.value.0 c.value here rest)
 
 uleb_stays : (p : Place) (x : ℕ × Place) → uleb_at p ≡ Ok x → x.1.bytes ≡ p.bytes
 unfolding uleb_at
@@ -193,8 +154,8 @@ values_at_set : (file : List ℕ) (fields : List MemberRow) (p : Place) (values 
     → values_at file fields p ≡ Some values → All (IsInit file) values
 unfolding values_at
 values_at_set file fields p values are e =
-    let a = bind_some (readable (uleb_at p)) _ values e in
-    values_set file fields a.x.0 a.x.1 values (subst AreBytes (sym (uleb_stays p a.x (readable_some (uleb_at p) a.x a.first))) are) a.later
+    let a = bound (readable (uleb_at p)) _ values e in
+    values_set file fields a.value.0 a.value.1 values (subst AreBytes (sym (uleb_stays p a.value (readable_some (uleb_at p) a.value a.is))) are) a.rest
 
 -- the values of each class set their fields
 pub inits_there : (file : List ℕ) (i : ℕ) → AreBytes file → All (IsInit file) (values_in (class_values file i))

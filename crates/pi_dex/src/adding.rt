@@ -42,12 +42,7 @@ fn ask_content(
 }
 
 /// Adds what a file says, of which the rules X18 to X23 hold.
-fn add(
-    alloc: Global,
-    prog: &mut Prog,
-    raw: &Raw<'_>,
-    table: &RowTable,
-) -> Result<(), AllocError>
+fn add(alloc: Global, prog: &mut Prog, raw: &Raw<'_>, table: &RowTable) -> Result<(), AllocError>
     requires files { length prog.old.files < 8 }
     requires room { HasRoom prog.old }
     requires kept { broken_content_rule raw.now ≡ None }

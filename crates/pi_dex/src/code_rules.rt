@@ -9,9 +9,8 @@ ghost use Rattle.pi_format.specs.Rules.CodeItems.{broken_code};
 ghost use Rattle.pi_dex.specs.Judged.{IsMethod, code_place};
 
 use crate::members::members;
-use crate::places::lower;
 use crate::words::argument_words;
-use pi_classdata::{ClassRows, MemberRow, RowTable};
+use pi_classdata::{ClassRows, MemberRow, RowTable, lower};
 use pi_codeitem::holds;
 use pi_dexraw::Raw;
 use std::alloc::{AllocError, Global};
@@ -34,11 +33,7 @@ fn broken_item(alloc: Global, raw: &Raw<'_>, row: &MemberRow) -> Result<Option<u
 }
 
 /// The lowest of methods one after the other.
-fn lowest_item(
-    alloc: Global,
-    raw: &Raw<'_>,
-    rows: &[MemberRow],
-) -> Result<Option<u32>, AllocError>
+fn lowest_item(alloc: Global, raw: &Raw<'_>, rows: &[MemberRow]) -> Result<Option<u32>, AllocError>
     requires { All (IsMethod raw.now) rows.now }
     ensures { IfOk result (λ r. r ≡ lowest_of (code_place raw.now) rows.now) }
 {

@@ -23,30 +23,18 @@ fn long_init(n: u64) -> Init
     if n == 0 { Init::Zero } else { Init::Long(n) }
 }
 
-/// The bits of a number extended by its sign to 32 bits; half of so many bits are below the sign.
-fn extended_word(half: u32, n: u32) -> u32
+/// The bits of a number extended by its sign up to the last of a range; half of so many numbers are below the sign.
+fn extended(half: u64, last: u64, n: u64) -> u64
     requires some { 1 ≤ half }
-    requires half { half ≤ 2 ^ 31 }
+    requires half { 2 * half ≤ last + 1 }
     requires range { n < 2 * half }
-    ensures { result ≡ signed_extension half (2 ^ 32) n }
+    ensures value { result ≡ signed_extension half (last + 1) n }
+    ensures fits { result ≤ last }
 {
     if n < half {
         return n;
     }
-    n + (u32::MAX - (2 * (half - 1) + 1))
-}
-
-/// The bits of a number extended by its sign to 64 bits.
-fn extended_long(half: u64, n: u64) -> u64
-    requires some { 1 ≤ half }
-    requires half { half ≤ 2 ^ 63 }
-    requires range { n < 2 * half }
-    ensures { result ≡ signed_extension half (2 ^ 64) n }
-{
-    if n < half {
-        return n;
-    }
-    n + (u64::MAX - (2 * (half - 1) + 1))
+    n + (last - (2 * (half - 1) + 1))
 }
 
 /// The sign of a number of one byte and so many more.
@@ -83,7 +71,7 @@ fn signed_word(arg: u8, number: u64) -> u32
     ensures { result ≡ signed_extension (2 ^ (8 * arg + 7)) (2 ^ 32) number }
 {
     let half = sign_of(arg);
-    extended_word(half as u32, small(arg, number))
+    extended(half, u32::MAX as u64, number) as u32
 }
 
 /// The number of a long extended by its sign to 64 bits.
@@ -93,7 +81,7 @@ fn signed_long(arg: u8, number: u64) -> u64
     ensures { result ≡ signed_extension (2 ^ (8 * arg + 7)) (2 ^ 64) number }
 {
     let half = sign_of(arg);
-    extended_long(half, number)
+    extended(half, u64::MAX, number)
 }
 
 /// What a value sets its field to.

@@ -10,8 +10,8 @@ ghost use Rattle.pi_format.specs.Rules.Pieces.{broken_walk, broken_index, broken
 ghost use Rattle.pi_dex.specs.Judged.{CodeLies, no_faults, both_faults, code_faults, row_faults, faults_of};
 
 use crate::members::members;
-use crate::places::{lower, unit_place};
-use pi_classdata::{ClassRows, MemberRow, RowTable};
+use crate::places::unit_place;
+use pi_classdata::{ClassRows, MemberRow, RowTable, lower};
 use pi_codeitem::{broken_index, broken_payload, pieces_fill_up, units, walk};
 use pi_dexraw::Raw;
 use std::alloc::{AllocError, Global};

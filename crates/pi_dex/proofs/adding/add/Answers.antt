@@ -1,4 +1,4 @@
-use Rattle.std.proofs.Common.{ℕ, List, length, sym, ap, ◌∙◌, subst}
+use Rattle.std.proofs.Common.{length, sym, ap, ◌∙◌, subst}
 use Rattle.pi_format.specs.Says.Names.{Named}
 use Rattle.pi_format.proofs.Held.{content_holds}
 use Rattle.pi_dex.specs.Judged.{AreBytes}
@@ -28,7 +28,7 @@ add_file-requires c =
     let p = c.args.prog.now in
     let file = c.args.raw.now in
     let parts = are_parts p file _ _ _ _ _ _ c.new-names.ensures (c.as_slice.ensures ∙ c.in_ok-new.ensures.numbers) c.files.ensures.value
-        c.in_ok-new.ensures.new c.in_ok-types.ensures c.in_ok-classes.ensures in
+    c.in_ok-new.ensures.new c.in_ok-types.ensures c.in_ok-classes.ensures in
     parts_fit p file _ _ _ parts (c.said_fits.ensures p file c.keeps.ensures c.requires.room c.requires.files c.file.ensures.small (all_kept file c.file.ensures.kept c.requires.kept))
 
 pub returns-clause-said : goal.returns-clause-said
@@ -36,7 +36,7 @@ returns-clause-said c =
     let p = c.args.prog.now in
     let file = c.args.raw.now in
     let parts = are_parts p file _ _ _ _ _ _ c.new-names.ensures (c.as_slice.ensures ∙ c.in_ok-new.ensures.numbers) c.files.ensures.value
-        c.in_ok-new.ensures.new c.in_ok-types.ensures c.in_ok-classes.ensures in
+    c.in_ok-new.ensures.new c.in_ok-types.ensures c.in_ok-classes.ensures in
     said_next c.add_file.result p file _ _ _ _ parts (all_kept file c.file.ensures.kept c.requires.kept) c.add_file.ensures.ok
 
 pub returns-clause-room : goal.returns-clause-room
@@ -44,6 +44,6 @@ returns-clause-room c =
     let p = c.args.prog.now in
     let file = c.args.raw.now in
     let parts = are_parts p file _ _ _ _ _ _ c.new-names.ensures (c.as_slice.ensures ∙ c.in_ok-new.ensures.numbers) c.files.ensures.value
-        c.in_ok-new.ensures.new c.in_ok-types.ensures c.in_ok-classes.ensures in
+    c.in_ok-new.ensures.new c.in_ok-types.ensures c.in_ok-classes.ensures in
     room_behind c.add_file.result p file _ (c.said_has_room.ensures p file c.requires.room c.file.ensures.small (all_kept file c.file.ensures.kept c.requires.kept))
     (said_next c.add_file.result p file _ _ _ _ parts (all_kept file c.file.ensures.kept c.requires.kept) c.add_file.ensures.ok)

@@ -1,12 +1,10 @@
-use Rattle.std.proofs.Common.{◌≡◌, ℕ, ◌+◌, ◌-◌, ◌<◌, ◌≤◌, sym, ap, ◌∙◌, arith, subst}
-use Rattle.std.specs.List.{All}
+use Rattle.std.proofs.Common.{◌≡◌, ℕ, ◌+◌, ◌-◌, ◌<◌, ap, ◌∙◌, arith}
 use Rattle.pi_format.specs.Tables.{count_at, class_defs}
 use Rattle.pi_format.specs.Rules.ClassData.{ClassRows, methods_in}
 use Rattle.pi_dex.specs.declared.walk_rules.Faults.{Faults}
-use Rattle.pi_dex.specs.Judged.{CodeLies, both_faults, faults_of}
-use Rattle.pi_format.proofs.Every.{all_left, all_right}
-use Rattle.pi_dex.proofs.Codes.{rows_lie}
-use Rattle.pi_dex.proofs.Faults.{faults_from, classes_go, classes_done}
+use Rattle.pi_dex.specs.Judged.{both_faults, faults_of}
+use Rattle.pi_dex.proofs.Codes.{lists_lie}
+use Rattle.pi_dex.proofs.Faults.{faults_from, classes_go, classes_found}
 use Rattle.pi_dex.proofs.walk_rules.walk_rules.Goals as goal
 
 pub members-requires-clause-counted : goal.members-requires-clause-counted
@@ -14,17 +12,11 @@ members-requires-clause-counted c = omega (arith, c.class_defs-i-end.ensures)
 
 pub class_faults-requires-clause-directs : goal.class_faults-requires-clause-directs
 class_faults-requires-clause-directs c =
-    let file = c.args.raw.now in
-    let lt : c.loop-i.i < count_at file class_defs = omega (arith, c.class_defs-i-end.ensures) in
-    let lie = subst (λ (r : ClassRows). All (CodeLies file) (methods_in r)) (sym c.members.ensures.rows) (rows_lie file c.loop-i.i c.requires.code lt) in
-    all_left (CodeLies file) c.members.result.now.directs c.members.result.now.virtuals lie
+    (lists_lie c.args.raw.now c.loop-i.i c.members.result.now c.members.ensures.rows c.requires.code (omega (arith, c.class_defs-i-end.ensures))).0
 
 pub class_faults-requires-clause-virtuals : goal.class_faults-requires-clause-virtuals
 class_faults-requires-clause-virtuals c =
-    let file = c.args.raw.now in
-    let lt : c.loop-i.i < count_at file class_defs = omega (arith, c.class_defs-i-end.ensures) in
-    let lie = subst (λ (r : ClassRows). All (CodeLies file) (methods_in r)) (sym c.members.ensures.rows) (rows_lie file c.loop-i.i c.requires.code lt) in
-    all_right (CodeLies file) c.members.result.now.directs c.members.result.now.virtuals lie
+    (lists_lie c.args.raw.now c.loop-i.i c.members.result.now c.members.ensures.rows c.requires.code (omega (arith, c.class_defs-i-end.ensures))).1
 
 pub loop-i-init : goal.loop-i-init
 loop-i-init c =
@@ -46,21 +38,15 @@ loop-i-preserved c =
 
 pub returns-clause-walk : goal.returns-clause-walk
 returns-clause-walk c =
-    let file = c.args.raw.now in
-    let n : ℕ = count_at file class_defs in
-    let le : n ≤ c.loop-i.i = omega (arith, c.class_defs-i-end.ensures) in
-    ap (λ (f : Faults). f.walk) (sym (classes_done file c.loop-i.lowest c.loop-i.i n le) ∙ c.loop-i.invariant)
+    ap (λ (f : Faults). f.walk)
+    (classes_found c.args.raw.now c.loop-i.lowest _ c.loop-i.i (count_at c.args.raw.now class_defs) (omega (arith, c.class_defs-i-end.ensures)) c.loop-i.invariant)
 
 pub returns-clause-index : goal.returns-clause-index
 returns-clause-index c =
-    let file = c.args.raw.now in
-    let n : ℕ = count_at file class_defs in
-    let le : n ≤ c.loop-i.i = omega (arith, c.class_defs-i-end.ensures) in
-    ap (λ (f : Faults). f.index) (sym (classes_done file c.loop-i.lowest c.loop-i.i n le) ∙ c.loop-i.invariant)
+    ap (λ (f : Faults). f.index)
+    (classes_found c.args.raw.now c.loop-i.lowest _ c.loop-i.i (count_at c.args.raw.now class_defs) (omega (arith, c.class_defs-i-end.ensures)) c.loop-i.invariant)
 
 pub returns-clause-payload : goal.returns-clause-payload
 returns-clause-payload c =
-    let file = c.args.raw.now in
-    let n : ℕ = count_at file class_defs in
-    let le : n ≤ c.loop-i.i = omega (arith, c.class_defs-i-end.ensures) in
-    ap (λ (f : Faults). f.payload) (sym (classes_done file c.loop-i.lowest c.loop-i.i n le) ∙ c.loop-i.invariant)
+    ap (λ (f : Faults). f.payload)
+    (classes_found c.args.raw.now c.loop-i.lowest _ c.loop-i.i (count_at c.args.raw.now class_defs) (omega (arith, c.class_defs-i-end.ensures)) c.loop-i.invariant)
