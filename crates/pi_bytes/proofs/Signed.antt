@@ -5,6 +5,7 @@ use mir.Syntax.{w32}
 use mir.Val.{to_z, of_z}
 use Rattle.std.proofs.lemmas.Int.{ints}
 use Rattle.std.proofs.lemmas.Bool.Decides.{nat_tests}
+use Rattle.pi_bytes.specs.Numbers.{most_bytes}
 use Rattle.pi_bytes.specs.declared.fault.ReadFault.{ReadFault}
 use Rattle.pi_bytes.specs.declared.fault.ReadFault.TheVariants.{LongLeb}
 use Rattle.pi_bytes.specs.Reading.{◌>>=◌}
@@ -24,7 +25,7 @@ pub reach_least : (n : ℕ) → 8 ≤ reach n
 reach_least zero = omega arith
 reach_least (suc n) = omega (arith, reach_least n)
 
-pub reach_most : (n : ℕ) → n ≤ 3 → reach n ≤ 16777216
+pub reach_most : (n : ℕ) → n ≤ 3 → reach n ≤ most_bytes
 reach_most zero h = omega arith
 reach_most (suc zero) h = omega arith
 reach_most (suc (suc zero)) h = omega arith
@@ -53,7 +54,7 @@ in_reach (suc more) (b ∷ rest) = step b (reach more) (sleb_by more rest) (reac
 
 -- the number above a byte, where at most four stand before the last
 pub above_fits : (more : ℕ) (bytes : List ℕ) (x : ℤ × ℕ) → 0 < more → more ≤ 4 → sleb_by (more - 1) bytes ≡ Ok x
-    → (neg_ℤ (pos 16777216) ≤ℤ x.0) × (x.0 <ℤ pos 16777216)
+    → (neg_ℤ (pos most_bytes) ≤ℤ x.0) × (x.0 <ℤ pos most_bytes)
 above_fits more bytes x some few e =
     let least = reach_most (more - 1) (omega arith) in
     let near : InReach (reach (more - 1)) (Ok x) = rw e at (in_reach (more - 1) bytes) in
@@ -74,7 +75,7 @@ sleb_more (suc more) (b ∷ rest) x some long high e =
     rw (no, same) refl
 
 -- a sum of 32 bits is the sum
-pub summed : (low : ℕ) (above : ℤ) → low < 128 → neg_ℤ (pos 16777216) ≤ℤ above → above <ℤ pos 16777216
+pub summed : (low : ℕ) (above : ℤ) → low < 128 → neg_ℤ (pos most_bytes) ≤ℤ above → above <ℤ pos most_bytes
     → to_z w32 (of_z w32 (to_z w32 low +ℤ to_z w32 (of_z w32 (pos 128 *ℤ to_z w32 (of_z w32 above)))))
     ≡ pos low +ℤ (pos 128 *ℤ above)
 summed low above bound least most = omega (arith, ints)

@@ -18,3 +18,15 @@ in_file file at n = nat_le (at + n) (length file)
 abbrev pub halves_at : List ℕ → ℕ → ℕ → List ℕ
 halves_at file at zero = []
 halves_at file at (suc n) = half_at file at ∷ halves_at file (at + 2) n
+
+-- the most bytes that a file may have: 16 MiB
+abbrev pub most_bytes : ℕ
+most_bytes = 16777216
+
+-- words are below this
+abbrev pub word_end : ℕ
+word_end = 4294967296
+
+-- the word that stands for an index where there is none
+abbrev pub no_index : ℕ
+no_index = 4294967295

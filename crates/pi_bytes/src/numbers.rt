@@ -6,6 +6,15 @@ ghost use Rattle.pi_bytes.specs.Numbers.{half_at, word_at, in_file, halves_at};
 use byteorder::{ByteOrder, LittleEndian};
 use std::alloc::{AllocError, Global};
 
+/// The most bytes that a file may have: 16 MiB.
+pub const MOST_BYTES: usize = 0x100_0000;
+
+/// The word that stands for an index where there is none.
+pub const NO_INDEX: u32 = 0xffff_ffff;
+
+/// Words are below this.
+pub const WORD_END: u64 = 0x1_0000_0000;
+
 /// The 16-bit number at a place.
 pub fn half(file: &[u8], at: usize) -> u16
     requires { at + 2 ≤ length file.now }

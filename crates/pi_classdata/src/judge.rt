@@ -1,6 +1,7 @@
 // Whether a row of class data holds. docs/dex-format.md states what is asked of each list.
 
 ghost use Rattle.std.specs.Prelude.{◌≡◌, ◌<◌, ◌==◌, ◌&&◌, not, length, true, IsTrue};
+ghost use Rattle.pi_bytes.specs.Numbers.{word_end};
 ghost use Rattle.pi_format.specs.Tables.{count_at, class_defs, string_ids, proto_ids, field_ids, method_ids};
 ghost use Rattle.pi_format.specs.Rules.Entries.{list_fits, list_at};
 ghost use Rattle.pi_format.specs.Rules.Descriptors.{is_void};
@@ -60,7 +61,7 @@ pub(crate) fn owner_of(raw: &Raw<'_>, i: u32) -> Owner
 /// Whether there is a field of that number, and it belongs to a class.
 fn is_field(raw: &Raw<'_>, class: u32, id: u64) -> bool
     ensures value { result ≡ is_field_of raw.now class id }
-    ensures small { IsTrue result → id < 4294967296 }
+    ensures small { IsTrue result → id < word_end }
 {
     id < raw.fields() as u64 && raw.field_entry(id as u32).class == class
 }
@@ -68,7 +69,7 @@ fn is_field(raw: &Raw<'_>, class: u32, id: u64) -> bool
 /// Whether there is a method of that number, and it belongs to a class.
 fn is_method(raw: &Raw<'_>, class: u32, id: u64) -> bool
     ensures value { result ≡ is_method_of raw.now class id }
-    ensures small { IsTrue result → id < 4294967296 }
+    ensures small { IsTrue result → id < word_end }
 {
     id < raw.methods() as u64 && raw.method_entry(id as u32).class == class
 }
@@ -112,7 +113,7 @@ fn returns_nothing(raw: &Raw<'_>, row: &ReadRow) -> bool
 #[tactic(auto, using(crate::proofs::Types::list_in_file, crate::proofs::Types::no_types))]
 fn has_no_types(file: &[u8], at: usize) -> bool
     requires fits { list_fits file.now at ≡ true }
-    requires small { at < 4294967296 }
+    requires small { at < word_end }
     ensures { result ≡ (length (list_at file.now at) == 0) }
 {
     at == 0 || word(file, at) == 0
@@ -200,7 +201,7 @@ fn fits(raw: &Raw<'_>, owner: &Owner, row: &ReadRow) -> bool
 /// Whether a row of direct methods holds.
 fn is_direct_row(raw: &Raw<'_>, owner: &Owner, row: &ReadRow) -> bool
     ensures value { result ≡ row_holds raw.now owner.now DirectMethods row.now }
-    ensures small { IsTrue result → row.now.id < 4294967296 }
+    ensures small { IsTrue result → row.now.id < word_end }
 {
     is_method(raw, owner.class, row.id)
         && is_direct(raw, row)
@@ -211,7 +212,7 @@ fn is_direct_row(raw: &Raw<'_>, owner: &Owner, row: &ReadRow) -> bool
 /// Whether a row of virtual methods holds.
 fn is_virtual_row(raw: &Raw<'_>, owner: &Owner, row: &ReadRow) -> bool
     ensures value { result ≡ row_holds raw.now owner.now VirtualMethods row.now }
-    ensures small { IsTrue result → row.now.id < 4294967296 }
+    ensures small { IsTrue result → row.now.id < word_end }
 {
     is_method(raw, owner.class, row.id) && !is_direct(raw, row) && fits(raw, owner, row)
 }
@@ -219,7 +220,7 @@ fn is_virtual_row(raw: &Raw<'_>, owner: &Owner, row: &ReadRow) -> bool
 /// Whether a row is one of its list: a member of the class, of the kind that the list has.
 pub(crate) fn holds(raw: &Raw<'_>, owner: &Owner, list: MemberList, row: &ReadRow) -> bool
     ensures value { result ≡ row_holds raw.now owner.now list row.now }
-    ensures small { IsTrue result → row.now.id < 4294967296 }
+    ensures small { IsTrue result → row.now.id < word_end }
 {
     let is_static = AccessFlags(row.flags).is_static();
     match list {

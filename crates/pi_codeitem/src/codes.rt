@@ -1,6 +1,7 @@
 // The handler lists of a code item, and whether a code item holds for a method.
 
 ghost use Rattle.std.specs.Prelude.{◌≡◌, ◌+◌, ◌*◌, ◌<◌, ◌≤◌, ◌≢◌, ◌==◌, ◌&&◌, nat_le, nat_lt, length, true, IfOk};
+ghost use Rattle.pi_bytes.specs.Numbers.{most_bytes, word_end};
 ghost use Rattle.pi_format.specs.Rules.CodeItems.{code_head, code_lies, code_lists, code_holds, tries_at, try_range, is_list_at, ranges_have_lists};
 
 use crate::handler_lists::HandlerLists;
@@ -12,7 +13,7 @@ use std::alloc::{AllocError, Global};
 /// Whether the list of a range is one of those that stand behind the ranges.
 fn has_list(file: &[u8], begin: usize, place: usize, k: usize, lists: &HandlerLists) -> bool
     requires inside { begin + 8 * k + 8 ≤ length file.now }
-    requires place { place ≤ 16777216 }
+    requires place { place ≤ most_bytes }
     ensures { result ≡ is_list_at lists.now (place + (try_range file.now begin k).handlers) }
 {
     let range = range(file, begin, k);
@@ -21,8 +22,8 @@ fn has_list(file: &[u8], begin: usize, place: usize, k: usize, lists: &HandlerLi
 
 /// Whether each range has one of the lists.
 fn have_lists(file: &[u8], at: usize, head: &CodeHead, lists: &HandlerLists) -> bool
-    requires small { at < 4294967296 }
-    requires file { length file.now ≤ 16777216 }
+    requires small { at < word_end }
+    requires file { length file.now ≤ most_bytes }
     requires inside { tries_at at head.now + 8 * head.now.tries ≤ length file.now }
     ensures { result ≡ ranges_have_lists file.now at head.now lists.now }
 {
@@ -44,8 +45,8 @@ fn of_ranges(
     head: &CodeHead,
 ) -> Result<Option<HandlerLists>, AllocError>
     requires header { 112 ≤ length file.now }
-    requires file { length file.now ≤ 16777216 }
-    requires small { at < 4294967296 }
+    requires file { length file.now ≤ most_bytes }
+    requires small { at < word_end }
     requires head { head.now ≡ code_head file.now at }
     requires some { head.now.tries ≢ 0 }
     ensures { IfOk result (λ r. r ≡ code_lists file.now at) }
@@ -65,8 +66,8 @@ fn of_ranges(
 /// The handler lists of a code item, none where it has no ranges; None where they or the ranges do not hold.
 pub fn handlers(alloc: Global, file: &[u8], at: usize) -> Result<Option<HandlerLists>, AllocError>
     requires header { 112 ≤ length file.now }
-    requires file { length file.now ≤ 16777216 }
-    requires small { at < 4294967296 }
+    requires file { length file.now ≤ most_bytes }
+    requires small { at < word_end }
     requires lies { code_lies file.now at ≡ true }
     ensures { IfOk result (λ r. r ≡ code_lists file.now at) }
 {
@@ -88,8 +89,8 @@ fn fits(head: &CodeHead, words: u32) -> bool
 #[tactic(auto, using(crate::proofs::Items::not_lying, crate::proofs::Items::not_fitting, crate::proofs::Items::held_by_lists))]
 pub fn holds(alloc: Global, file: &[u8], at: usize, words: u32) -> Result<bool, AllocError>
     requires header { 112 ≤ length file.now }
-    requires file { length file.now ≤ 16777216 }
-    requires small { at < 4294967296 }
+    requires file { length file.now ≤ most_bytes }
+    requires small { at < word_end }
     ensures { IfOk result (λ r. r ≡ code_holds file.now words at) }
 {
     if !lies(file, at) {

@@ -1,7 +1,7 @@
 // The head of a code item, and its units.
 
 ghost use Rattle.std.specs.Prelude.{◌≡◌, ◌+◌, ◌*◌, ◌<◌, ◌≤◌, length, true, IfOk};
-ghost use Rattle.pi_bytes.specs.Numbers.{word_at};
+ghost use Rattle.pi_bytes.specs.Numbers.{word_at, word_end};
 ghost use Rattle.pi_format.specs.Rules.CodeItems.{code_head, code_lies};
 ghost use Rattle.pi_format.specs.Rules.Pieces.{code_units};
 
@@ -32,7 +32,7 @@ impl Model for CodeHead {
 /// Whether the head and the units of a code item are in the file, at a multiple of four.
 #[tactic(auto, unfolding(pi_format::specs::Rules::CodeItems::code_lies))]
 pub fn lies(file: &[u8], at: usize) -> bool
-    requires { at < 4294967296 }
+    requires { at < word_end }
     ensures { result ≡ code_lies file.now at }
 {
     at % 4 == 0

@@ -1,6 +1,7 @@
 // What stands at an address of a code: an instruction, or the payload of one.
 
 ghost use Rattle.std.specs.Prelude.{◌≡◌, ◌+◌, ◌*◌, ◌/◌, ◌<◌, ◌≤◌, length, drop, Some, None, IfSome, IfNone};
+ghost use Rattle.pi_bytes.specs.Numbers.{most_bytes};
 ghost use Rattle.pi_insn.specs.Lent.{data_of};
 ghost use Rattle.pi_format.specs.Rules.Entries.{each_from};
 ghost use Rattle.pi_format.specs.Rules.Pieces.{What as Found, front_piece, payload_units, payload_fits, signed_key, key_rises, keys_rise};
@@ -43,7 +44,7 @@ impl<'a> Model for Piece<'a> {
 
 /// The signed key of a case, by the units of all keys.
 fn signed_key(keys: &[u16], k: usize) -> i32
-    requires small { length keys.now ≤ 16777216 }
+    requires small { length keys.now ≤ most_bytes }
     requires counted { 2 * k + 1 < length keys.now }
     ensures { result ≡ signed_key keys.now k }
 {
@@ -52,7 +53,7 @@ fn signed_key(keys: &[u16], k: usize) -> i32
 
 /// Whether a key is above the one before it.
 fn key_rises(keys: &[u16], k: usize) -> bool
-    requires small { length keys.now ≤ 16777216 }
+    requires small { length keys.now ≤ most_bytes }
     requires counted { 2 * k + 1 < length keys.now }
     ensures { result ≡ key_rises keys.now k }
 {
@@ -61,7 +62,7 @@ fn key_rises(keys: &[u16], k: usize) -> bool
 
 /// Whether the keys of a sparse switch rise.
 fn keys_rise(keys: &[u16]) -> bool
-    requires { length keys.now ≤ 16777216 }
+    requires { length keys.now ≤ most_bytes }
     ensures { result ≡ keys_rise keys.now }
 {
     for k in 0..keys.len() / 2 {
@@ -74,7 +75,7 @@ fn keys_rise(keys: &[u16]) -> bool
 
 /// The units of a payload.
 fn size_of(payload: &Payload<'_>) -> usize
-    requires { payload_units (data_of payload.now) ≤ 16777216 }
+    requires { payload_units (data_of payload.now) ≤ most_bytes }
     ensures { result ≡ payload_units (data_of payload.now) }
 {
     match payload {
@@ -86,7 +87,7 @@ fn size_of(payload: &Payload<'_>) -> usize
 
 /// The opcode of the instructions that may point at a payload.
 fn asker_of(payload: &Payload<'_>) -> Option<u8>
-    requires { payload_units (data_of payload.now) ≤ 16777216 }
+    requires { payload_units (data_of payload.now) ≤ most_bytes }
     ensures { result ≡ data_asker (data_of payload.now) }
 {
     match payload {
@@ -111,7 +112,7 @@ impl<'a> Piece<'a> {
 
     /// A payload as a piece.
     fn of_payload(at: u32, payload: Payload<'a>) -> Piece<'a>
-        requires { payload_units (data_of payload) ≤ 16777216 }
+        requires { payload_units (data_of payload) ≤ most_bytes }
         ensures { result ≡ record { at = at; units = payload_units (data_of payload.entry); what = Found.Payload (data_of payload.entry) } }
     {
         let units = size_of(&payload) as u32;
@@ -128,7 +129,7 @@ impl<'a> Piece<'a> {
     #[tactic(auto, using(crate::proofs::Fronts::payload_inside))]
     pub(crate) fn front(units: &'a [u16], at: usize) -> Option<Piece<'a>>
         requires inside { at < length units.now }
-        requires small { length units.now ≤ 16777216 }
+        requires small { length units.now ≤ most_bytes }
         ensures value { result ≡ front_piece at (drop at units.now) }
         ensures begins { IfSome result (λ p. p.at ≡ at) }
         ensures inside { IfSome result (λ p. at + p.units ≤ length units.now) }

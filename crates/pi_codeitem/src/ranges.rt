@@ -1,6 +1,7 @@
 // The ranges of a code item that have handlers.
 
 ghost use Rattle.std.specs.Prelude.{◌≡◌, ◌+◌, ◌*◌, ◌^◌, ◌<◌, ◌≤◌, length, true};
+ghost use Rattle.pi_bytes.specs.Numbers.{word_end};
 ghost use Rattle.pi_format.specs.Rules.Entries.{each_from};
 ghost use Rattle.pi_format.specs.Rules.CodeItems.{code_head, code_lies, tries_at, lists_at, try_range, range_holds, ranges_hold};
 
@@ -29,7 +30,7 @@ impl Model for TryRange {
 
 /// Where the ranges begin.
 pub(crate) fn tries_at(at: usize, head: &CodeHead) -> usize
-    requires { at < 4294967296 }
+    requires { at < word_end }
     ensures value { result ≡ tries_at at head.now }
     ensures small { result < 2 ^ 34 }
 {
@@ -39,7 +40,7 @@ pub(crate) fn tries_at(at: usize, head: &CodeHead) -> usize
 
 /// Where the lists of handlers begin: behind the ranges.
 pub fn lists_at(at: usize, head: &CodeHead) -> usize
-    requires { at < 4294967296 }
+    requires { at < word_end }
     ensures { result ≡ lists_at at head.now }
 {
     tries_at(at, head) + 8 * head.tries as usize
@@ -89,7 +90,7 @@ fn each_holds(file: &[u8], begin: usize, units: u32, n: usize) -> bool
 
 /// Whether the ranges of a code item are in the file and hold.
 pub fn ranges_hold(file: &[u8], at: usize, head: &CodeHead) -> bool
-    requires { at < 4294967296 }
+    requires { at < word_end }
     ensures { result ≡ ranges_hold file.now at head.now }
 {
     let begin = tries_at(at, head);
@@ -99,7 +100,7 @@ pub fn ranges_hold(file: &[u8], at: usize, head: &CodeHead) -> bool
 
 /// A range of a code item whose ranges hold.
 pub fn try_range(file: &[u8], at: usize, k: usize) -> TryRange
-    requires small { at < 4294967296 }
+    requires small { at < word_end }
     requires lies { code_lies file.now at ≡ true }
     requires hold { ranges_hold file.now at (code_head file.now at) ≡ true }
     requires counted { k < (code_head file.now at).tries }

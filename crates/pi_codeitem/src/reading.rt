@@ -1,6 +1,7 @@
 // Reading of the handler lists of a code item.
 
 ghost use Rattle.std.specs.Prelude.{◌≡◌, ◌+◌, ◌*◌, ◌<◌, ◌≤◌, length, nat_abs, true, IfOk, IfSome, OnSome, List, ℕ};
+ghost use Rattle.pi_bytes.specs.Numbers.{most_bytes};
 ghost use Rattle.pi_bytes.specs.Place.{Place};
 ghost use Rattle.pi_bytes.specs.Leb.{uleb_at, sleb_at};
 ghost use Rattle.pi_format.specs.Rules.Rows.{readable};
@@ -141,7 +142,7 @@ fn list(
     cursor: &mut Cursor<'_>,
 ) -> Result<Option<HandlerList>, AllocError>
     requires header { 112 ≤ length file.now }
-    requires small { length cursor.old.bytes ≤ 16777216 }
+    requires small { length cursor.old.bytes ≤ most_bytes }
     ensures exact { IfOk result (λ r. Finds (handler_list file.now units cursor.old) cursor.new r) }
     ensures same { cursor.new.bytes ≡ cursor.old.bytes }
     ensures behind { IfOk result (λ r. OnSome r (cursor.old.at < cursor.new.at)) }
@@ -169,7 +170,7 @@ fn lists_from(
     cursor: &mut Cursor<'_>,
 ) -> Result<Option<HandlerLists>, AllocError>
     requires header { 112 ≤ length file.now }
-    requires small { length cursor.old.bytes ≤ 16777216 }
+    requires small { length cursor.old.bytes ≤ most_bytes }
     ensures { IfOk result (λ r. r ≡ lists_from file.now units n cursor.old) }
 {
     let mut lists = Vec::new(alloc);
@@ -193,7 +194,7 @@ pub(crate) fn lists(
     begin: usize,
 ) -> Result<Option<HandlerLists>, AllocError>
     requires header { 112 ≤ length file.now }
-    requires small { length file.now ≤ 16777216 }
+    requires small { length file.now ≤ most_bytes }
     requires inside { begin ≤ length file.now }
     ensures { IfOk result (λ r. r ≡ handler_lists file.now units begin) }
 {

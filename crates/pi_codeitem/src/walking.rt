@@ -1,6 +1,7 @@
 // The walk over the units of a code.
 
 ghost use Rattle.std.specs.Prelude.{◌≡◌, ◌≤◌, length, IfOk};
+ghost use Rattle.pi_bytes.specs.Numbers.{most_bytes};
 ghost use Rattle.pi_format.specs.Rules.Pieces.{walk};
 
 use crate::pieces::Piece;
@@ -11,7 +12,7 @@ use std::alloc::{AllocError, Global};
 /// neither stands.
 #[tactic(auto, unfolding(pi_format::specs::Rules::Pieces::walk))]
 pub fn walk<'a>(alloc: Global, units: &'a [u16]) -> Result<Walk<'a>, AllocError>
-    requires { length units.now ≤ 16777216 }
+    requires { length units.now ≤ most_bytes }
     ensures { IfOk result (λ w. w ≡ walk units.now) }
 {
     let mut pieces = Vec::new(alloc);

@@ -3,6 +3,7 @@ use Rattle.std.proofs.Common.{◌≡◌, ◌≢◌, ℕ, ◌^◌, ◌<◌, ◌�
 use Rattle.std.specs.Prelude.{◌==◌}
 use Rattle.std.specs.List.{All}
 use Rattle.std.proofs.lemmas.Bool.Decides.{nat_tests}
+use Rattle.pi_bytes.specs.Numbers.{most_bytes}
 use Rattle.pi_format.specs.Tables.{count_at, field_ids, method_ids, class_defs}
 use Rattle.pi_format.specs.Rules.Classes.{class_entry}
 use Rattle.pi_format.specs.Rules.Rows.{MemberRow}
@@ -40,7 +41,7 @@ rows_there file i law = by_rows (class_rows file i) refl
           virtuals = all_weaker (IsMember file method_ids class) (IsMethod file) rows.virtuals (λ r m. m.there) are.virtuals;
         }
 
-code_small : (file : List ℕ) (row : MemberRow) → length file ≤ 16777216 → (row.code ≢ 0 → SaysCode file row.code) → row.code < 2 ^ 32
+code_small : (file : List ℕ) (row : MemberRow) → length file ≤ most_bytes → (row.code ≢ 0 → SaysCode file row.code) → row.code < 2 ^ 32
 code_small file row few says = by_test (row.code == 0) refl
   where
     by_test : (b : Bool) → (row.code == 0) ≡ b → row.code < 2 ^ 32
@@ -49,7 +50,7 @@ code_small file row few says = by_test (row.code == 0) refl
         let some : row.code ≢ 0 = grind (arith, nat_tests) in
         omega (arith, few, code_in_file file row.code (says some).lies)
 
-pub says_class : (file : List ℕ) (i : ℕ) → MembersLaw → AreBytes file → length file ≤ 16777216 → broken_code file ≡ None → broken_index file ≡ None
+pub says_class : (file : List ℕ) (i : ℕ) → MembersLaw → AreBytes file → length file ≤ most_bytes → broken_code file ≡ None → broken_index file ≡ None
     → i < count_at file class_defs → SaysClass file i
 says_class file i law bytes few code index lt =
     let there = rows_there file i law in
@@ -64,7 +65,7 @@ says_class file i law bytes few code index lt =
       values = inits_there file i bytes;
     }
 
-pub says_classes : (file : List ℕ) → MembersLaw → AreBytes file → length file ≤ 16777216 → broken_code file ≡ None → broken_index file ≡ None → SaysClasses file
+pub says_classes : (file : List ℕ) → MembersLaw → AreBytes file → length file ≤ most_bytes → broken_code file ≡ None → broken_index file ≡ None → SaysClasses file
 says_classes file law bytes few code index = record { each = λ i lt. says_class file i law bytes few code index lt }
 
 -- the same of rows that are those of the class

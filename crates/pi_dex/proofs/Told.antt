@@ -2,6 +2,7 @@
 use Rattle.std.proofs.Common.{◌≡◌, ℕ, ◌+◌, ◌^◌, ◌<◌, ◌≤◌, List, length, Option, None, ap, ◌∙◌, arith}
 use Rattle.std.specs.Prelude.{Result, Ok, Err}
 use Rattle.pi_model.specs.Program.{Program}
+use Rattle.pi_bytes.specs.Numbers.{most_bytes}
 use Rattle.pi_format.specs.Tables.{count_at, string_ids}
 use Rattle.pi_format.specs.Rules.{Broken, or_else, broken_tables_rule, broken_content_rule, broken_rule}
 use Rattle.pi_format.specs.Says.{HasRoom}
@@ -34,7 +35,7 @@ last_told rules (Err OutOfMemory) asks = _
 last_told rules (Err (Rule rule at)) asks = asks None
 
 -- there is room for the names of a file behind those that there are
-pub names_fit : (p : Program) (file : List ℕ) → HasRoom p → length p.files < 8 → length file ≤ 16777216 → broken_rule file ≡ None
+pub names_fit : (p : Program) (file : List ℕ) → HasRoom p → length p.files < 8 → length file ≤ most_bytes → broken_rule file ≡ None
     → length p.names + count_at file string_ids < 2 ^ 32
 names_fit p file room files few kept =
     let lie = tables_lie file (tables_hold file (rule_parts file kept).0).tables in

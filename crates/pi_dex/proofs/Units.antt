@@ -3,7 +3,7 @@ use Rattle.std.proofs.Common.{◌≡◌, ℕ, zero, suc, ◌+◌, ◌-◌, ◌*�
 use Rattle.std.specs.Prelude.{IfSome}
 use Rattle.std.proofs.lemmas.List.{length-drop}
 use Rattle.pi_insn.specs.declared.raw.RawInsn.{RawInsn}
-use Rattle.pi_bytes.specs.Numbers.{word_at}
+use Rattle.pi_bytes.specs.Numbers.{word_at, most_bytes}
 use Rattle.pi_format.specs.Rules.CodeItems.{code_lies}
 use Rattle.pi_format.specs.Rules.Pieces.{What, Instruction, Payload, Piece, Walk, front_piece, walk_from, walk, code_units, code_walk, first_insn, index_holds, points_well}
 use Rattle.pi_codeitem.proofs.Items.{code_in_file}
@@ -56,15 +56,15 @@ first_below test from (p ∷ ps) to at f e =
     by_what (Payload d) is begins again = again (rw is at e)
     by_what (Instruction i) is begins again = by_test i (test p.at i) is refl begins again
 
-place_fits : (file : List ℕ) (at unit : ℕ) → length file ≤ 16777216 → code_lies file at ≡ true → unit ≤ length (code_units file at) → at + 16 + 2 * unit < 2 ^ 32
+place_fits : (file : List ℕ) (at unit : ℕ) → length file ≤ most_bytes → code_lies file at ≡ true → unit ≤ length (code_units file at) → at + 16 + 2 * unit < 2 ^ 32
 place_fits file at unit few lies le = omega (arith, few, le, units_few file at lies)
 
-pub stop_fits : (file : List ℕ) (at : ℕ) (stop : Option ℕ) → length file ≤ 16777216 → code_lies file at ≡ true → stop ≡ (code_walk file at).stop
+pub stop_fits : (file : List ℕ) (at : ℕ) (stop : Option ℕ) → length file ≤ most_bytes → code_lies file at ≡ true → stop ≡ (code_walk file at).stop
     → IfSome stop (λ u. at + 16 + 2 * u < 2 ^ 32)
 stop_fits file at None few lies e = _
 stop_fits file at (Some stop) few lies e = place_fits file at stop few lies (end_below (code_units file at) (Some stop) (sym e))
 
-pub insn_fits : (file : List ℕ) (at : ℕ) (test : ℕ → RawInsn → Bool) (unit : Option ℕ) → length file ≤ 16777216 → code_lies file at ≡ true
+pub insn_fits : (file : List ℕ) (at : ℕ) (test : ℕ → RawInsn → Bool) (unit : Option ℕ) → length file ≤ most_bytes → code_lies file at ≡ true
     → ((units : List ℕ) → FillUp 0 (walk units).pieces (end_of (walk units).stop (length units)))
     → unit ≡ first_insn test (code_walk file at).pieces → IfSome unit (λ u. at + 16 + 2 * u < 2 ^ 32)
 insn_fits file at test None few lies law e = _

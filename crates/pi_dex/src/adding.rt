@@ -1,6 +1,7 @@
 // The file behind the chain.
 
 ghost use Rattle.std.specs.Prelude.{◌≡◌, ◌<◌, ◌≤◌, length, None, OnOk, OnErr};
+ghost use Rattle.pi_bytes.specs.Numbers.{most_bytes};
 ghost use Rattle.pi_format.specs.Tables.{count_at, class_defs};
 ghost use Rattle.pi_format.specs.Rules.{broken_content_rule, broken_rule};
 ghost use Rattle.pi_format.specs.Rules.Lowest.{tabulation};
@@ -85,7 +86,7 @@ fn append_raw(alloc: Global, prog: &mut Prog, raw: &Raw<'_>) -> Result<(), DexFa
 pub fn append(alloc: Global, prog: &mut Prog, bytes: &[u8]) -> Result<(), DexFault>
     requires files { length prog.old.files < 8 }
     requires room { HasRoom prog.old }
-    requires small { length bytes.now ≤ 16777216 }
+    requires small { length bytes.now ≤ most_bytes }
     ensures told { Tells (broken_rule bytes.now) result }
     ensures said { OnOk result (SaysNext prog.old bytes.now prog.new) }
     ensures room { OnOk result (HasRoom prog.new) }

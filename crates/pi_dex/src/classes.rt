@@ -10,11 +10,13 @@ ghost use Rattle.pi_format.specs.Says.Codes.{code_of};
 ghost use Rattle.pi_format.specs.Says.Names.{type_name};
 ghost use Rattle.pi_format.specs.Says.Classes.{field_desc, static_fields, values_in, fields_said, method_desc, parent_name, class_desc, types_said, classes_said};
 ghost use Rattle.pi_model.specs.declared.describe.Init.{Init as Initial};
+ghost use Rattle.pi_bytes.specs.Numbers.{no_index};
 ghost use Rattle.pi_dex.specs.Judged.{SaysCode, SaysMethod, IsField, IsInit};
 ghost use Rattle.pi_dex.specs.Ready.{SaysClass, SaysClasses, init_at};
 
 use crate::inits::init_of;
 use crate::members::members;
+use pi_bytes::numbers::NO_INDEX;
 use pi_classdata::{ClassRows, EncodedValue, MemberRow, RowTable, Values, class_values};
 use pi_dexcode::{Named, code};
 use pi_model::describe::{ClassDesc, Classes, Code, FieldDesc, Fields, Init, MethodDesc, Methods};
@@ -162,10 +164,10 @@ fn methods(alloc: Global, names: &Named<'_>, rows: &ClassRows) -> Result<Methods
 
 /// The superclass, none where the definition has no number of one.
 fn parent_of(names: &Named<'_>, t: u32) -> Option<NameNo>
-    requires { t ≢ 4294967295 → t < count_at names.now.file type_ids }
+    requires { t ≢ no_index → t < count_at names.now.file type_ids }
     ensures { result ≡ parent_name names.now t }
 {
-    if t == 0xffff_ffff {
+    if t == NO_INDEX {
         None
     } else {
         Some(names.type_name(t))

@@ -5,7 +5,7 @@ use Rattle.std.specs.List.{All}
 use Rattle.std.proofs.lemmas.Bool.Decides.{nat_tests}
 use Rattle.std.proofs.lemmas.List.Elements.{All-head, All-tail}
 use Rattle.pi_model.specs.declared.describe.Catch.{Catch}
-use Rattle.pi_bytes.specs.Numbers.{word_at}
+use Rattle.pi_bytes.specs.Numbers.{word_at, most_bytes, word_end}
 use Rattle.pi_format.specs.Rules.Entries.{each_from}
 use Rattle.pi_format.specs.Rules.CodeItems.{HandlerList, TryRange, CodeHead, code_head, code_lies, tries_at, lists_at, try_range, range_holds, ranges_hold}
 use Rattle.pi_format.specs.Says.Names.{Named}
@@ -47,14 +47,14 @@ range_ends file at head k hold lt =
     let this = subst (λ (j : ℕ). range_holds file (tries_at at head) head.units j ≡ true) (zero-add k) (each_holds (range_holds file (tries_at at head) head.units) 0 head.tries each k lt) in
     le_true ((try_range file (tries_at at head) k).from + (try_range file (tries_at at head) k).size) head.units (both (nat_le ((try_range file (tries_at at head) k).from + (try_range file (tries_at at head) k).size) head.units) _ this).0
 
-pub range_small : (file : List ℕ) (at : ℕ) (head : CodeHead) (k : ℕ) → length file ≤ 16777216 → code_lies file at ≡ true → head ≡ code_head file at → ranges_hold file at head ≡ true
-    → k < head.tries → (try_range file (tries_at at head) k).from + (try_range file (tries_at at head) k).size < 4294967296
+pub range_small : (file : List ℕ) (at : ℕ) (head : CodeHead) (k : ℕ) → length file ≤ most_bytes → code_lies file at ≡ true → head ≡ code_head file at → ranges_hold file at head ≡ true
+    → k < head.tries → (try_range file (tries_at at head) k).from + (try_range file (tries_at at head) k).size < word_end
 range_small file at head k few lies is hold lt =
     let units : head.units ≡ word_at file (at + 12) = ap (λ (h : CodeHead). h.units) is in
     below ((try_range file (tries_at at head) k).from + (try_range file (tries_at at head) k).size) head.units (word_at file (at + 12)) at (length file)
     (range_ends file at head k hold lt) units (code_in_file file at lies) few
   where
-    below : (end units word at n : ℕ) → end ≤ units → units ≡ word → at + 16 + 2 * word ≤ n → n ≤ 16777216 → end < 4294967296
+    below : (end units word at n : ℕ) → end ≤ units → units ≡ word → at + 16 + 2 * word ≤ n → n ≤ most_bytes → end < word_end
     below end units word at n le is inside few = omega arith
 
 -- the same range by an equal file and head

@@ -3,6 +3,7 @@ use Rattle.std.proofs.Common.{◌≡◌, ◌⊎◌, inl, inr, ℕ, ◌+◌, ◌*
 use Rattle.std.specs.Prelude.{◌==◌, nat_lt, if◌then◌else◌}
 use Rattle.std.proofs.lemmas.Bool.Decides.{nat_tests}
 use Rattle.std.proofs.lemmas.List.{length-drop, length-take, length-take-le}
+use Rattle.pi_bytes.specs.Numbers.{most_bytes}
 use Rattle.pi_insn.specs.Numbers.{signed_number, word}
 use Rattle.pi_insn.specs.Payloads.{Data, PackedData, SparseData, ArrayData, packed_data, sparse, is_width, units_for, array, payload}
 use Rattle.pi_dexcode.specs.Whole.{IsWhole}
@@ -12,7 +13,7 @@ unless_true : {A : Type 0} (b : Bool) (x y : A) → (if b then None else Some x)
 unless_true true x y e = cc
 unless_true false x y e = (refl, cc)
 
-packed_whole : (size : ℕ) (rest : List ℕ) (d : Data) → length rest ≤ 16777216 → packed_data size rest ≡ Some d → IsWhole d
+packed_whole : (size : ℕ) (rest : List ℕ) (d : Data) → length rest ≤ most_bytes → packed_data size rest ≡ Some d → IsWhole d
 packed_whole size rest d few e =
     let is = (unless_true (nat_lt (length rest) (2 + 2 * size)) (PackedData (signed_number 2147483648 (word rest 0)) (take (2 * size) (drop 2 rest))) d e).1 in
     subst IsWhole is (record { few = omega (arith, few, length-take (2 * size) (drop 2 rest), length-drop 2 rest) })
@@ -59,7 +60,7 @@ pub if_either : {A : Type 0} (b : Bool) (x y z : Option A) → (if b then x else
 if_either true x y z e = inl e
 if_either false x y z e = inr e
 
-pub payload_whole : (units : List ℕ) (d : Data) → length units ≤ 16777216 → payload units ≡ Some d → IsWhole d
+pub payload_whole : (units : List ℕ) (d : Data) → length units ≤ most_bytes → payload units ≡ Some d → IsWhole d
 unfolding payload
 payload_whole [] d few e = cc
 payload_whole (kind ∷ []) d few e = cc

@@ -7,7 +7,7 @@ use Rattle.pi_insn.specs.declared.raw.RawInsn.{RawInsn}
 use Rattle.pi_insn.specs.declared.raw.InsnError.{InsnError}
 use Rattle.pi_insn.specs.Reading.{insn_in}
 use Rattle.pi_insn.specs.Payloads.{Data, payload}
-use Rattle.pi_bytes.specs.Numbers.{word_at, halves_at}
+use Rattle.pi_bytes.specs.Numbers.{word_at, halves_at, most_bytes}
 use Rattle.pi_format.specs.Rules.CodeItems.{code_lies}
 use Rattle.pi_format.specs.Rules.Pieces.{Piece, address, payload_found, found_at, payload_of, What, Instruction, Payload, Walk, payload_units, front_piece, with_piece, walk_from, walk, code_units, first_insn, index_holds}
 use Rattle.pi_format.proofs.Loops.{none_first}
@@ -18,7 +18,7 @@ use Rattle.pi_dexcode.proofs.Payloads.{payload_whole, if_either}
 abbrev piece : ℕ → ℕ → What → Piece
 piece at units what = record { at = at; units = units; what = what }
 
-front_whole : (at : ℕ) (units : List ℕ) (p : Piece) → length units ≤ 16777216 → front_piece at units ≡ Some p → WhatIsWhole p.what
+front_whole : (at : ℕ) (units : List ℕ) (p : Piece) → length units ≤ most_bytes → front_piece at units ≡ Some p → WhatIsWhole p.what
 front_whole at units p few e = by_read (insn_in units) (payload units) refl refl e
   where
     by_read : (r : Result (RawInsn × ℕ) InsnError) (o : Option Data) → insn_in units ≡ r → payload units ≡ o → front_piece at units ≡ Some p → WhatIsWhole p.what
@@ -43,23 +43,23 @@ halt : (more at : ℕ) (units : List ℕ) → 0 < length units → front_piece a
 halt more at [] some e = absurd (omega arith)
 halt more at (u ∷ units) some e = rw e refl
 
-whole_step : (more at : ℕ) (units : List ℕ) (o : Option Piece) → front_piece at units ≡ o → 0 < length units → length units ≤ 16777216
-    → ((n : ℕ) → length (drop n units) ≤ 16777216 → AreWhole (walk_from more (at + n) (drop n units)).pieces) → AreWhole (walk_from (suc more) at units).pieces
+whole_step : (more at : ℕ) (units : List ℕ) (o : Option Piece) → front_piece at units ≡ o → 0 < length units → length units ≤ most_bytes
+    → ((n : ℕ) → length (drop n units) ≤ most_bytes → AreWhole (walk_from more (at + n) (drop n units)).pieces) → AreWhole (walk_from (suc more) at units).pieces
 whole_step more at units None found some few later =
     subst (λ (w : Walk). AreWhole w.pieces) (sym (halt more at units some found)) (All-nil (λ (p : Piece). WhatIsWhole p.what))
 whole_step more at units (Some p) found some few later =
     let rest = walk_from more (at + p.units) (drop p.units units) in
-    let short : length (drop p.units units) ≤ 16777216 = omega (arith, length-drop p.units units) in
+    let short : length (drop p.units units) ≤ most_bytes = omega (arith, length-drop p.units units) in
     subst (λ (w : Walk). AreWhole w.pieces) (sym (step more at units p some found))
     (All-cons (λ (p : Piece). WhatIsWhole p.what) p rest.pieces (front_whole at units p few found) (later p.units short))
 
-whole_from : (more at : ℕ) (units : List ℕ) → length units ≤ 16777216 → AreWhole (walk_from more at units).pieces
+whole_from : (more at : ℕ) (units : List ℕ) → length units ≤ most_bytes → AreWhole (walk_from more at units).pieces
 whole_from more at [] few = All-nil (λ (p : Piece). WhatIsWhole p.what)
 whole_from zero at (u ∷ units) few = All-nil (λ (p : Piece). WhatIsWhole p.what)
 whole_from (suc more) at (u ∷ units) few =
     whole_step more at (u ∷ units) (front_piece at (u ∷ units)) refl (omega arith) few (λ n l. whole_from more (at + n) (drop n (u ∷ units)) l)
 
-pub walk_whole : (units : List ℕ) → length units ≤ 16777216 → AreWhole (walk units).pieces
+pub walk_whole : (units : List ℕ) → length units ≤ most_bytes → AreWhole (walk units).pieces
 unfolding walk
 walk_whole units few = whole_from (length units) 0 units few
 
@@ -101,7 +101,7 @@ pub halves_long : (file : List ℕ) (at n : ℕ) → length (halves_at file at n
 halves_long file at zero = refl
 halves_long file at (suc n) = ap suc (halves_long file (at + 2) n)
 
-pub units_short : (file : List ℕ) (at : ℕ) → length file ≤ 16777216 → code_lies file at ≡ true → length (code_units file at) ≤ 16777216
+pub units_short : (file : List ℕ) (at : ℕ) → length file ≤ most_bytes → code_lies file at ≡ true → length (code_units file at) ≤ most_bytes
 units_short file at few lies = omega (arith, few, code_in_file file at lies, halves_long file (at + 16) (word_at file (at + 12)))
 
 -- where no instruction has an index that is not there, each has one that is

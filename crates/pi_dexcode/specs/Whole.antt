@@ -4,6 +4,7 @@ use Rattle.pi_model.specs.declared.insn.Case.{Case}
 use Rattle.pi_insn.specs.Numbers.{word}
 use Rattle.pi_insn.specs.Payloads.{Data, PackedData, SparseData, ArrayData}
 use Rattle.std.specs.List.{All}
+use Rattle.pi_bytes.specs.Numbers.{most_bytes}
 use Rattle.pi_format.specs.Rules.CodeItems.{Handler, HandlerList}
 use Rattle.pi_format.specs.Rules.Pieces.{Piece, What, Instruction, Payload, index_holds}
 use Rattle.pi_format.specs.Says.Insns.{word_of, case_target}
@@ -14,7 +15,7 @@ pub record IsItems (width size : ℕ) (units : List ℕ) : Type 0 where
   pub whole : width * size ≤ 2 * length units
 
 pub record IsPacked (targets : List ℕ) : Type 0 where
-  pub few : length targets ≤ 16777216
+  pub few : length targets ≤ most_bytes
 
 pub record IsSparse (keys targets : List ℕ) : Type 0 where
   pub same : length keys ≡ length targets

@@ -2,6 +2,7 @@
 
 ghost use Rattle.std.specs.Prelude.{◌≡◌, ◌+◌, ◌^◌, ◌<◌, true, is_some, None, ◌++◌, ◌∷◌, [], map, IfOk, OnOk};
 ghost use Rattle.std.specs.List.{All};
+ghost use Rattle.pi_bytes.specs.Numbers.{word_end};
 ghost use Rattle.pi_format.specs.Tables.{count_at, type_ids};
 ghost use Rattle.pi_format.specs.Rules.CodeItems.{code_head, code_lies, code_lists, ranges_hold};
 ghost use Rattle.pi_format.specs.Rules.CodeItems.{Handler as Handled};
@@ -104,7 +105,7 @@ fn add_range(
     lists: &HandlerLists,
     k: usize,
 ) -> Result<(), AllocError>
-    requires small { at < 4294967296 }
+    requires small { at < word_end }
     requires lies { code_lies names.now.file at ≡ true }
     requires head { head.now ≡ code_head names.now.file at }
     requires hold { ranges_hold names.now.file at head.now ≡ true }
@@ -129,7 +130,7 @@ fn catches(
     head: &CodeHead,
     lists: &HandlerLists,
 ) -> Result<Tries, AllocError>
-    requires small { at < 4294967296 }
+    requires small { at < word_end }
     requires lies { code_lies names.now.file at ≡ true }
     requires head { head.now ≡ code_head names.now.file at }
     requires lists { code_lists names.now.file at ≡ Some lists.now }
@@ -184,7 +185,7 @@ fn lines(alloc: Global, names: &Named<'_>, walk: &Walk<'_>) -> Result<Insns, All
 /// The code of the code item at an offset, which holds.
 #[tactic(auto, unfolding(pi_format::specs::Says::Codes::code_at))]
 pub fn code(alloc: Global, names: &Named<'_>, at: usize) -> Result<Code, AllocError>
-    requires small { at < 4294967296 }
+    requires small { at < word_end }
     requires lies { code_lies names.now.file at ≡ true }
     requires lists { is_some (code_lists names.now.file at) ≡ true }
     requires indices { first_insn (λ a i. index_holds names.now.file i.body) (code_walk names.now.file at).pieces ≡ None }

@@ -1,6 +1,7 @@
 // What the data of payloads says: the cases of a switch, and the items of an array.
 
 ghost use Rattle.std.specs.Prelude.{◌≡◌, ◌+◌, ◌*◌, ◌/◌, ◌%◌, ◌<◌, ◌≤◌, length, Some, IfOk};
+ghost use Rattle.pi_bytes.specs.Numbers.{most_bytes};
 ghost use Rattle.pi_insn.specs.Lent.{data_of};
 ghost use Rattle.pi_format.specs.Rules.Lowest.{tabulation};
 ghost use Rattle.pi_format.specs.Says.Insns.{case_target, item_of, cases_of, width_of, items_of};
@@ -22,7 +23,7 @@ fn case_target(at: u32, targets: &[u16], k: usize) -> u32
 
 /// A case of a packed switch, whose keys count from the first one up.
 fn packed_case(at: u32, first: i32, targets: &[u16], k: usize) -> Case
-    requires small { k < 16777216 }
+    requires small { k < most_bytes }
     requires inside { 2 * k + 1 < length targets.now }
     ensures { result ≡ packed_case at first targets.now k }
 {
@@ -46,7 +47,7 @@ fn sparse_case(at: u32, keys: &[u16], targets: &[u16], k: usize) -> Case
 
 /// The cases of a packed switch, whose keys count from the first one up.
 fn packed_cases(alloc: Global, at: u32, first: i32, targets: &[u16]) -> Result<Cases, AllocError>
-    requires { length targets.now ≤ 16777216 }
+    requires { length targets.now ≤ most_bytes }
     ensures { IfOk result (λ cases. cases ≡ tabulation (packed_case at first targets.now) 0 (length targets.now / 2)) }
 {
     let mut cases = Vec::new(alloc);

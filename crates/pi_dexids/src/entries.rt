@@ -7,7 +7,7 @@ ghost use Rattle.pi_format.specs.Rules.Strings.{type_string};
 ghost use Rattle.pi_format.specs.Rules.Members.{member_entry, proto_entry};
 ghost use Rattle.pi_format.specs.Rules.Classes.{class_entry};
 ghost use Rattle.pi_format.specs.Rules.ClassData.{class_flags, class_data_at, class_values_at};
-ghost use Rattle.pi_bytes.specs.Numbers.{word_at};
+ghost use Rattle.pi_bytes.specs.Numbers.{word_at, word_end};
 ghost use Rattle.pi_dexids.specs.Tables.{HasTables};
 
 use pi_bytes::numbers::{half, word};
@@ -76,7 +76,7 @@ pub struct ClassDef {
 pub fn count(file: &[u8], table: usize) -> usize
     requires { table + 4 ≤ length file.now }
     ensures value { result ≡ count_at file.now table }
-    ensures small { result < 4294967296 }
+    ensures small { result < word_end }
 {
     word(file, table) as usize
 }
@@ -108,7 +108,7 @@ pub fn string_of_type(file: &[u8], t: usize) -> usize
     requires tables { HasTables file.now }
     requires counted { t < count_at file.now type_ids }
     ensures value { result ≡ type_string file.now t }
-    ensures small { result < 4294967296 }
+    ensures small { result < word_end }
 {
     word(file, entry(file, TYPE_IDS, 4, t)) as usize
 }

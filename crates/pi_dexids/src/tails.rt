@@ -2,6 +2,7 @@
 // Texts may overlap: so none is read again for each string that has it.
 
 ghost use Rattle.std.specs.Prelude.{◌≡◌, ◌+◌, ◌<◌, ◌≤◌, length, IfOk, option_map};
+ghost use Rattle.pi_bytes.specs.Numbers.{most_bytes};
 ghost use Rattle.pi_format.specs.Tables.{count_at, string_ids};
 ghost use Rattle.pi_format.specs.Rules.Strings.{read_text, string_text, string_units};
 ghost use Rattle.pi_dexids.specs.Tails.{AreTails, tail_of, tail_at, known_in};
@@ -22,7 +23,7 @@ fn known(tails: &[Option<Tail>], at: usize) -> Option<Tail>
 
 /// What is known of the text at an offset, from what is known of those behind it.
 fn read(file: &[u8], tails: &[Option<Tail>], at: usize) -> Option<Tail>
-    requires small { length file.now ≤ 16777216 }
+    requires small { length file.now ≤ most_bytes }
     requires within { at < length file.now }
     requires known { AreTails file.now (at + 1) tails.now }
     ensures { result ≡ tail_at file.now at }
@@ -53,7 +54,7 @@ fn nothing(alloc: Global, n: usize) -> Result<Vec<Option<Tail>>, AllocError>
 
 /// What is known of the texts at all offsets.
 pub fn tails(alloc: Global, file: &[u8]) -> Result<Vec<Option<Tail>>, AllocError>
-    requires { length file.now ≤ 16777216 }
+    requires { length file.now ≤ most_bytes }
     ensures { IfOk result (λ list. AreTails file.now 0 list.items) }
 {
     let mut list = nothing(alloc, file.len())?;

@@ -2,6 +2,7 @@
 use Rattle.std.proofs.Common.{◌≡◌, ℕ, ◌≤◌, List, length, Option, Some, None, Bool, true, false, refl, arith}
 use Rattle.std.specs.Prelude.{nat_le, if◌then◌else◌}
 use Rattle.std.proofs.lemmas.Bool.Decides.{nat_tests}
+use Rattle.pi_bytes.specs.Numbers.{most_bytes}
 use Rattle.pi_format.specs.Tables.{table_holds, count_at, string_ids, type_ids, proto_ids, field_ids, method_ids, class_defs}
 use Rattle.pi_format.specs.Rules.{broken_tables_rule}
 use Rattle.pi_format.specs.Rules.Header.{counted_table, broken_length, broken_tables}
@@ -28,7 +29,7 @@ inner false at later e = cc
 few : (n : ℕ) → nat_le n 65535 ≡ true → n ≤ 65535
 few n e = grind (arith, nat_tests)
 
-pub have_tables : (file : List ℕ) → 112 ≤ length file → length file ≤ 16777216 → broken_tables file ≡ None → HasTables file
+pub have_tables : (file : List ℕ) → 112 ≤ length file → length file ≤ most_bytes → broken_tables file ≡ None → HasTables file
 have_tables file long small e =
     let classes : Option ℕ = if table_holds file class_defs 32 then None else Some class_defs in
     let methods : Option ℕ = if table_holds file method_ids 8 then classes else Some method_ids in
@@ -57,7 +58,7 @@ have_tables file long small e =
     }
 
 -- a file of which the rules hold has its tables, and its strings have texts
-pub raw_tables : (file : List ℕ) → length file ≤ 16777216 → broken_tables_rule file ≡ None → HasTables file
+pub raw_tables : (file : List ℕ) → length file ≤ most_bytes → broken_tables_rule file ≡ None → HasTables file
 raw_tables file small kept =
     let hold = tables_hold file kept in
     have_tables file (is_long file hold.length) small hold.tables

@@ -5,6 +5,7 @@ use Rattle.std.specs.List.{list_all}
 use Rattle.std.proofs.lemmas.Bool.Decides.{nat_tests}
 use Rattle.std.proofs.lemmas.List.{drop_more}
 use Rattle.pi_model.specs.Distinct.{all_distinct}
+use Rattle.pi_bytes.specs.Numbers.{most_bytes}
 use Rattle.pi_format.specs.Tables.{table_holds, count_at, class_defs, type_ids}
 use Rattle.pi_format.specs.Rules.Entries.{list_fits, list_at}
 use Rattle.pi_format.specs.Rules.Descriptors.{is_class_type}
@@ -105,7 +106,7 @@ in_fours file at fits =
         omega (arith, none)
     by_test false q = grind (arith, nat_tests)
 
-pub few_classes : (file : List ℕ) → HasTables file → count_at file class_defs ≤ 16777216
+pub few_classes : (file : List ℕ) → HasTables file → count_at file class_defs ≤ most_bytes
 unfolding table_holds
 few_classes file tables =
     let holds = tables.classes in

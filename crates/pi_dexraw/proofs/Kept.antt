@@ -3,6 +3,7 @@ use Rattle.std.proofs.Common.{◌≡◌, ◌≢◌, ℕ, ◌<◌, List, [], ◌�
 use Rattle.std.specs.Prelude.{nat_lt}
 use Rattle.std.specs.List.{list_all, All}
 use Rattle.std.specs.Prelude.{Result, Ok, Err, IfOk}
+use Rattle.pi_bytes.specs.Numbers.{no_index}
 use Rattle.pi_format.specs.Tables.{count_at, string_ids, type_ids, proto_ids, field_ids, method_ids, class_defs}
 use Rattle.pi_format.specs.Rules.{broken_tables_rule}
 use Rattle.pi_format.specs.Rules.Descriptors.{is_class_type}
@@ -42,7 +43,7 @@ pub class_there : (file : List ℕ) (i : ℕ) → broken_tables_rule file ≡ No
 class_there file i kept lt = (class_kept file i (tables_hold file kept).classes lt).class
 
 pub parent_there : (file : List ℕ) (i : ℕ) → broken_tables_rule file ≡ None → i < count_at file class_defs
-    → (class_entry file i).parent ≢ 4294967295 → (class_entry file i).parent < count_at file type_ids
+    → (class_entry file i).parent ≢ no_index → (class_entry file i).parent < count_at file type_ids
 parent_there file i kept lt some = (class_kept file i (tables_hold file kept).classes lt).parent some
 
 pub class_list : (file : List ℕ) (i : ℕ) → broken_tables_rule file ≡ None → i < count_at file class_defs → list_fits file (class_entry file i).faces ≡ true

@@ -1,6 +1,7 @@
 -- A file that was tested, and what is known of its strings.
 use Rattle.std.specs.Prelude.{◌≡◌, ◌≤◌, ℕ, List, length, codes, None}
 use Rattle.pi_model.specs.Texts.{same_text}
+use Rattle.pi_bytes.specs.Numbers.{most_bytes}
 use Rattle.pi_format.specs.Tables.{count_at, string_ids}
 use Rattle.pi_format.specs.Rules.{broken_tables_rule}
 use Rattle.pi_format.specs.Rules.Strings.{string_units}
@@ -22,6 +23,6 @@ known_of file i = known_text (string_units file i)
 
 -- no rule from X1 to X17 is broken, an offset is a number of 32 bits, and each string is known
 pub record IsRaw (file : List ℕ) (known : List Known) : Type 0 where
-  pub small : length file ≤ 16777216
+  pub small : length file ≤ most_bytes
   pub kept : broken_tables_rule file ≡ None
   pub known_texts : AreFacts (known_of file) (count_at file string_ids) known

@@ -1,6 +1,7 @@
 // The rules X1 to X17 one after the other. docs/dex-format.md states the order.
 
 ghost use Rattle.std.specs.Prelude.{◌≡◌, ◌≤◌, None, length, IfOk, OnOk};
+ghost use Rattle.pi_bytes.specs.Numbers.{most_bytes};
 ghost use Rattle.pi_format.specs.Rules.{broken_or, broken_tables_rule};
 ghost use Rattle.pi_format.specs.Rules.Strings.{broken_strings, broken_types};
 ghost use Rattle.pi_format.specs.Tables.{count_at, string_ids};
@@ -40,7 +41,7 @@ fn ask(rule: u8, broken: Option<u32>) -> Result<(), DexFault>
 /// Rules X1 to X5.
 #[tactic(auto, using(crate::proofs::Chain::is_long), unfolding(crate::specs::Asked::header_rules))]
 fn ask_header(file: &[u8]) -> Result<(), DexFault>
-    requires { length file.now ≤ 16777216 }
+    requires { length file.now ≤ most_bytes }
     ensures asks { Asks (header_rules file.now) result }
     ensures long { OnOk result (112 ≤ length file.now) }
 {
@@ -54,7 +55,7 @@ fn ask_header(file: &[u8]) -> Result<(), DexFault>
 /// Rules X6 to X9.
 #[tactic(auto, using(crate::proofs::Chain::have_tables), unfolding(crate::specs::Asked::sum_rules))]
 fn ask_sums(file: &[u8]) -> Result<(), DexFault>
-    requires small { length file.now ≤ 16777216 }
+    requires small { length file.now ≤ most_bytes }
     requires long { 112 ≤ length file.now }
     ensures asks { Asks (sum_rules file.now) result }
     ensures tables { OnOk result (HasTables file.now) }
@@ -106,7 +107,7 @@ pub(crate) fn ask_all<'a>(
     alloc: Global,
     file: &'a [u8],
 ) -> Result<(Types<'a>, Vec<Known>), DexFault>
-    requires { length file.now ≤ 16777216 }
+    requires { length file.now ≤ most_bytes }
     ensures told { Tells (broken_tables_rule file.now) result }
     ensures types { IfOk result (λ r. r.0 ≡ file.now) }
     ensures known { IfOk result (λ r. AreFacts (known_of file.now) (count_at file.now string_ids) r.1.items) }

@@ -1,6 +1,7 @@
 // Rule X17, on the table of class definitions. docs/dex-format.md states it.
 
 ghost use Rattle.std.specs.Prelude.{◌≡◌, ◌≢◌, ◌+◌, ◌<◌, ◌≤◌, ◌&&◌, ℕ, length, nat_le, true, Some, slice_get, IfSome, IfOk};
+ghost use Rattle.pi_bytes.specs.Numbers.{word_end};
 ghost use Rattle.pi_format.specs.Tables.{count_at, class_defs, type_ids};
 ghost use Rattle.pi_format.specs.Rules.Entries.{list_fits, list_at};
 ghost use Rattle.pi_format.specs.Rules.Classes.{class_entry, is_class_id, stands_earlier, parent_holds, faces_hold, class_holds, broken_classes};
@@ -9,13 +10,11 @@ ghost use Rattle.pi_dexraw.specs.Interfaces.{AreInRange, AreFaces, AreJudged, Ar
 
 use crate::distinct::are_distinct;
 use crate::type_lists::{fits, list};
+use pi_bytes::numbers::NO_INDEX;
 use pi_dexids::entries::{CLASS_DEFS, class_def_at, count, entry};
 use pi_dexids::facts::{note, numbers};
 use pi_dexids::types::Types;
 use std::alloc::{AllocError, Global};
-
-/// What stands for the superclass where there is none.
-const NO_INDEX: usize = 0xffff_ffff;
 
 /// Whether a type that the file defines is defined before a definition.
 #[tactic(auto, unfolding(pi_format::specs::Rules::Classes::stands_earlier))]
@@ -38,7 +37,7 @@ fn holds_parent(alloc: Global, types: &Types<'_>, i: usize) -> Result<bool, Allo
     let class = class_def_at(types.file(), i);
     let is_object = types.is_object(alloc, class.class as usize)?;
     let parent = class.parent as usize;
-    if parent == NO_INDEX {
+    if class.parent == NO_INDEX {
         return Ok(is_object);
     }
     Ok(!is_object && parent < types.count() && is_earlier(types, i, parent))
@@ -132,7 +131,7 @@ fn judge_list(
     requires marks { length marks.old.items ≡ count_at types.now type_ids }
     requires fresh { AreInRange mark marks.old.items }
     requires fits { list_fits types.now at ≡ true }
-    requires small { at < 4294967296 }
+    requires small { at < word_end }
     ensures value { IfOk result (λ r. AreJudged types.now (list_at types.now at) r) }
     ensures few { IfOk result (λ r. IfSome r (λ n. n ≤ count_at types.now class_defs)) }
     ensures same { length marks.new.items ≡ length marks.old.items }
@@ -156,7 +155,7 @@ fn judge_once(
     requires fresh { AreInRange mark marks.old.items }
     requires known { AreKnown types.now known.old.items }
     requires fits { list_fits types.now at ≡ true }
-    requires small { at < 4294967296 }
+    requires small { at < word_end }
     ensures value { IfOk result (λ r. AreJudged types.now (list_at types.now at) r) }
     ensures same { length marks.new.items ≡ length marks.old.items }
     ensures kept { AreInRange (mark + 1) marks.new.items }

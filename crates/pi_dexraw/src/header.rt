@@ -2,7 +2,7 @@
 // broken, None where it holds.
 
 ghost use Rattle.std.specs.Prelude.{◌≡◌, ◌+◌, ◌<◌, ◌≤◌, ◌&&◌, nat_le, length, true, IsTrue};
-ghost use Rattle.pi_bytes.specs.Numbers.{word_at};
+ghost use Rattle.pi_bytes.specs.Numbers.{word_at, most_bytes};
 ghost use Rattle.pi_format.specs.Tables.{table_holds};
 ghost use Rattle.pi_format.specs.Rules.Header.{unless, counted_table, broken_length, broken_magic, broken_order, broken_header_size, broken_file_size, broken_checksum, broken_signature, broken_tables, broken_data};
 ghost use Rattle.pi_bytes.specs.Sums.{adler};
@@ -21,7 +21,7 @@ pub(crate) fn unless(holds: bool, at: u32) -> Option<u32>
 
 /// X1: the file has at least 112 bytes.
 pub(crate) fn length_rule(file: &[u8]) -> Option<u32>
-    requires { length file.now ≤ 16777216 }
+    requires { length file.now ≤ most_bytes }
     ensures { result ≡ broken_length file.now }
 {
     unless(file.len() >= 112, file.len() as u32)

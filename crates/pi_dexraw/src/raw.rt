@@ -2,6 +2,7 @@
 // the rules.
 
 ghost use Rattle.std.specs.Prelude.{◌≡◌, ◌+◌, ◌<◌, ◌≤◌, true, None, length, take, drop, IfOk};
+ghost use Rattle.pi_bytes.specs.Numbers.{most_bytes};
 ghost use Rattle.pi_format.specs.Tables.{table_holds, count_at, string_ids, type_ids, proto_ids, field_ids, method_ids, class_defs};
 ghost use Rattle.pi_format.specs.Rules.{broken_tables_rule};
 ghost use Rattle.pi_format.specs.Rules.Entries.{entry_at};
@@ -61,7 +62,7 @@ fn lend<'a>(file: &'a [u8], table: usize, width: usize, i: usize) -> &'a [u8]
 impl<'a> Raw<'a> {
     /// Tests the rules X1 to X17 and tells the first one that is broken.
     pub fn new(alloc: Global, bytes: &'a [u8]) -> Result<Raw<'a>, DexFault>
-        requires { length bytes.now ≤ 16777216 }
+        requires { length bytes.now ≤ most_bytes }
         ensures told { Tells (broken_tables_rule bytes.now) result }
         ensures value { IfOk result (λ raw. raw ≡ bytes.now) }
     {
@@ -74,7 +75,7 @@ impl<'a> Raw<'a> {
     /// The bytes of the file.
     pub fn file(&self) -> &'a [u8]
         ensures value { result.now ≡ self.now }
-        ensures small { length self.now ≤ 16777216 }
+        ensures small { length self.now ≤ most_bytes }
         ensures header { 112 ≤ length self.now }
         ensures kept { broken_tables_rule self.now ≡ None }
         ensures tables { HasTables self.now }

@@ -3,6 +3,7 @@
 ghost use Rattle.std.specs.Prelude.{◌≡◌, ◌≢◌, ◌<◌, codes, IfOk};
 ghost use Rattle.std.specs.List.{All};
 ghost use Rattle.pi_model.specs.Texts.{same_text};
+ghost use Rattle.pi_bytes.specs.Numbers.{no_index};
 ghost use Rattle.pi_format.specs.Tables.{count_at, string_ids, type_ids, proto_ids, field_ids, method_ids, class_defs};
 ghost use Rattle.pi_format.specs.Rules.Entries.{list_at};
 ghost use Rattle.pi_format.specs.Rules.Descriptors.{begins_with};
@@ -80,7 +81,7 @@ impl<'a> Raw<'a> {
         ensures data { result.data_at ≡ class_data_at self.now i }
         ensures values { result.values_at ≡ class_values_at self.now i }
         ensures class_there { result.class < count_at self.now type_ids }
-        ensures parent_there { result.parent ≢ 4294967295 → result.parent < count_at self.now type_ids }
+        ensures parent_there { result.parent ≢ no_index → result.parent < count_at self.now type_ids }
     {
         class_def_at(self.file(), i as usize)
     }

@@ -6,6 +6,7 @@ use Rattle.std.specs.Fmt.{digits}
 use Rattle.pi_base.specs.declared.status.Status.TheVariants.{Done, Missing, Steps, Dex}
 use Rattle.pi_model.specs.Known.{descriptor_of}
 use Rattle.pi_model.specs.Program.{Program, with_file}
+use Rattle.pi_bytes.specs.Numbers.{most_bytes}
 use Rattle.pi_format.specs.Core.{name_no, core_names, core_program, int_name, object_name, out_name, void_name, strings_name}
 use Rattle.pi_format.specs.Rules.{Broken, broken_rule, broken_tables_rule}
 use Rattle.pi_format.specs.Says.{with_said}
@@ -57,7 +58,7 @@ contents name = if same_word name (codes "five.dex") then Some five_bytes else N
 words : List ℕ → List (List ℕ)
 words steps = codes "lazy" ∷ codes "five.dex" ∷ codes "LT;" ∷ steps ∷ []
 
-short : nat_lt 16777216 (length five_bytes) ≡ false
+short : nat_lt most_bytes (length five_bytes) ≡ false
 unfolding five_bytes
 short = refl
 
@@ -66,7 +67,7 @@ unfolding five
 says_five = five_is_said
 
 -- what is owed of the program is owed of the bytes
-by_bytes : (l : LazyWords) (o : Owed) → broken_rule five_bytes ≡ None → FileOwes l None five o → LengthOwes (nat_lt 16777216 (length five_bytes)) l five_bytes o
+by_bytes : (l : LazyWords) (o : Owed) → broken_rule five_bytes ≡ None → FileOwes l None five o → LengthOwes (nat_lt most_bytes (length five_bytes)) l five_bytes o
 by_bytes l o kept due =
     let said : FileOwes l None (with_said core_program five_bytes) o = subst (λ (p : Program). FileOwes l None p o) (sym says_five) due in
     let ruled : FileOwes l (broken_rule five_bytes) (with_said core_program five_bytes) o = subst (λ (b : Option Broken). FileOwes l b (with_said core_program five_bytes) o) (sym kept) said in

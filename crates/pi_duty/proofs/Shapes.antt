@@ -19,7 +19,7 @@ use Rattle.pi_model.specs.Search.{same_names}
 use Rattle.pi_model.specs.Texts.{same_text}
 use Rattle.pi_model.specs.Valid.{FitsBehind, IsProgram}
 use Rattle.pi_model.proofs.Kept.{kept_at_first, kept_behind}
-use Rattle.pi_bytes.specs.Numbers.{half_at}
+use Rattle.pi_bytes.specs.Numbers.{half_at, most_bytes}
 use Rattle.pi_format.specs.Core.{core_names, core_types, core_classes, core_program, object_class, out_class, object_name, out_name, int_name, void_name, strings_name, main_name, clinit_name}
 use Rattle.pi_format.specs.Tables.{count_at, class_defs}
 use Rattle.pi_format.specs.Rules.Lowest.{tabulation}
@@ -158,7 +158,7 @@ brought file = record { names = new_names core_names (texts_of file); types = ty
 
 -- the law of files, for one behind the first file
 abbrev Keeps : Type 0
-Keeps = (p : Program) (file : List ℕ) → IsProgram p → HasRoom p → length p.files < 8 → length file ≤ 16777216 → broken_rule file ≡ None → IsProgram (with_said p file)
+Keeps = (p : Program) (file : List ℕ) → IsProgram p → HasRoom p → length p.files < 8 → length file ≤ most_bytes → broken_rule file ≡ None → IsProgram (with_said p file)
 
 -- and the law of the classes that it says
 abbrev HasFacts : Type 0
@@ -168,7 +168,7 @@ core_room : HasRoom core_program
 unfolding core_names
 core_room = record { names = omega arith; types = omega arith; classes = omega arith; fields = omega arith; methods = omega arith }
 
-module _ (fits : FitsBehind no_files core_names core_types core_classes) (keeps : Keeps) (main file : List ℕ) (short : length file ≤ 16777216) where
+module _ (fits : FitsBehind no_files core_names core_types core_classes) (keeps : Keeps) (main file : List ℕ) (short : length file ≤ most_bytes) where
   core_keeps : IsProgram core_program
   core_keeps = kept_behind no_files core_names core_types core_classes kept_at_first fits
 

@@ -6,6 +6,7 @@ use Rattle.pi_base.specs.declared.status.Status.TheVariants.{Done, Uncaught, Usa
 use Rattle.pi_base.specs.Views.{Contents}
 use Rattle.pi_base.specs.Writes.{Write}
 use Rattle.pi_model.specs.Program.{Program}
+use Rattle.pi_bytes.specs.Numbers.{most_bytes}
 use Rattle.pi_format.specs.Core.{core_program}
 use Rattle.pi_format.specs.Rules.{Broken, broken_rule}
 use Rattle.pi_format.specs.Says.{with_said}
@@ -32,7 +33,7 @@ refusal status line = record { status = status; output = []; lines = line; write
 
 -- the longest file that is read
 abbrev pub most_bytes : ℕ
-most_bytes = 16777216
+most_bytes = most_bytes
 
 -- the limits of a lazy run: no class is held, and heap bytes and frame words are limited
 abbrev pub lazy_setting : ℕ → Setting

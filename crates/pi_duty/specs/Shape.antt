@@ -11,6 +11,7 @@ use Rattle.pi_model.specs.declared.describe.MethodDesc.{MethodDesc}
 use Rattle.pi_model.specs.Distinct.{all_distinct}
 use Rattle.pi_model.specs.Program.{Program, with_file}
 use Rattle.pi_model.specs.Texts.{same_text}
+use Rattle.pi_bytes.specs.Numbers.{most_bytes}
 use Rattle.pi_format.specs.Core.{core_names, core_program}
 use Rattle.pi_format.specs.Rules.{broken_rule}
 use Rattle.pi_format.specs.Says.{SaysNext, with_said}
@@ -51,10 +52,10 @@ pub record IsSmall (main : List ℕ) (p : Program) : Type 0 where
 
 -- a file that breaks no rule and says a small program behind the first file says one such class
 abbrev pub SmallHasClass : Type 0
-SmallHasClass = (main file : List ℕ) → broken_rule file ≡ None → length file ≤ 16777216 → is_small main (with_said core_program file) ≡ true
+SmallHasClass = (main file : List ℕ) → broken_rule file ≡ None → length file ≤ most_bytes → is_small main (with_said core_program file) ≡ true
     → HasSmallClass main (with_said core_program file)
 
 -- and where it is a list of bytes, the program has this shape
 abbrev pub SmallHasShape : Type 0
-SmallHasShape = (main file : List ℕ) (p : Program) → SaysNext core_program file p → length file ≤ 16777216 → ((k : ℕ) → slice_index file k < 256)
+SmallHasShape = (main file : List ℕ) (p : Program) → SaysNext core_program file p → length file ≤ most_bytes → ((k : ℕ) → slice_index file k < 256)
     → is_small main p ≡ true → IsSmall main p

@@ -9,7 +9,7 @@ use Rattle.pi_bytes.specs.declared.fault.ReadFault.{ReadFault}
 use Rattle.pi_bytes.specs.Leb.{uleb_by}
 use Rattle.pi_bytes.specs.Mutf8.{spellings, units_at}
 use Rattle.pi_bytes.proofs.Laws.{units_spelled, units_before}
-use Rattle.pi_bytes.specs.Numbers.{word_at}
+use Rattle.pi_bytes.specs.Numbers.{word_at, no_index}
 use Rattle.pi_format.specs.Tables.{count_at, string_ids, type_ids, proto_ids, field_ids, method_ids, class_defs}
 use Rattle.pi_format.specs.Rules.{Broken, broken_or, or_else, broken_tables_rule, broken_content_rule, broken_rule}
 use Rattle.pi_format.specs.Rules.Entries.{first_bad, entry_at, broken_entry, list_fits, list_at}
@@ -260,7 +260,7 @@ method_kept file i none lt =
 pub record ClassFits (file : List ℕ) (i : ℕ) (e : ClassEntry) : Type 0 where
   pub class : e.class < count_at file type_ids
   pub new : is_defined_in file i e.class ≡ false
-  pub parent : e.parent ≢ 0xffffffff → e.parent < count_at file type_ids
+  pub parent : e.parent ≢ no_index → e.parent < count_at file type_ids
   pub list : list_fits file e.faces ≡ true
   pub faces : list_all (is_class_id file) (list_at file e.faces) ≡ true
 
@@ -275,10 +275,10 @@ each_first p q (t ∷ ts) e =
     let first = (both (p t) (q t) head.0).0 in
     rw first (each_first p q ts head.1)
 
-parent_there : (file : List ℕ) (i : ℕ) (e : ClassEntry) → parent_holds file i e ≡ true → e.parent ≢ 0xffffffff → e.parent < count_at file type_ids
+parent_there : (file : List ℕ) (i : ℕ) (e : ClassEntry) → parent_holds file i e ≡ true → e.parent ≢ no_index → e.parent < count_at file type_ids
 unfolding parent_holds
 parent_there file i e holds some =
-    let no : (e.parent == 0xffffffff) ≡ false = grind (arith, nat_tests) in
+    let no : (e.parent == no_index) ≡ false = grind (arith, nat_tests) in
     let rest : (not (is_object file e.class) && (nat_lt e.parent (count_at file type_ids) && stands_earlier file i e.parent)) ≡ true =
     sym (ap (λ (b : Bool). if b then is_object file e.class else not (is_object file e.class) && (nat_lt e.parent (count_at file type_ids) && stands_earlier file i e.parent)) no) ∙ holds in
     let a = both (not (is_object file e.class)) (nat_lt e.parent (count_at file type_ids) && stands_earlier file i e.parent) rest in

@@ -1,6 +1,7 @@
 -- What program a chain of files says.
 use Rattle.std.specs.Prelude.{◌≡◌, ◌≤◌, ◌*◌, ℕ, List, [], ◌∷◌, length, None}
 use Rattle.pi_model.specs.Program.{Program, no_files, with_file, all_fields, all_methods}
+use Rattle.pi_bytes.specs.Numbers.{most_bytes}
 use Rattle.pi_format.specs.Rules.{broken_rule}
 use Rattle.pi_format.specs.Says.Names.{Named, texts_of, new_names, name_numbers}
 use Rattle.pi_format.specs.Says.Classes.{types_said, classes_said}
@@ -36,8 +37,8 @@ Says files p = SaysBehind no_files files p
 
 -- for each file so far there are at most as many of each kind of thing as a file of 16 MiB can bring
 pub record HasRoom (p : Program) : Type 0 where
-  pub names : length p.names ≤ 16777216 * length p.files
-  pub types : length p.types ≤ 16777216 * length p.files
-  pub classes : length p.classes ≤ 16777216 * length p.files
-  pub fields : all_fields p ≤ 16777216 * length p.files
-  pub methods : all_methods p ≤ 16777216 * length p.files
+  pub names : length p.names ≤ most_bytes * length p.files
+  pub types : length p.types ≤ most_bytes * length p.files
+  pub classes : length p.classes ≤ most_bytes * length p.files
+  pub fields : all_fields p ≤ most_bytes * length p.files
+  pub methods : all_methods p ≤ most_bytes * length p.files

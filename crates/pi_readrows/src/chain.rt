@@ -2,15 +2,13 @@
 ghost use Rattle.std.specs.Prelude.{OnOk};
 ghost use Rattle.pi_format.specs.Says.{HasRoom};
 
+use pi_bytes::numbers::MOST_BYTES;
 use pi_dex::{DexFault, append};
 use pi_model::prog::Prog;
 use pi_rows::fault::Fault;
 use pi_rows::files::Named;
 use pi_rows::told::Told;
 use std::alloc::Global;
-
-/// The longest file that is read.
-const MOST_BYTES: usize = 16_777_216;
 
 /// The most files of a chain.
 const MOST_FILES: u8 = 8;

@@ -1,5 +1,6 @@
 // The code items of a file, as rows of reader.rt ask for them.
 ghost use Rattle.std.specs.Prelude.{◌≡◌, ◌<◌, ◌≤◌, length, true, IfOk};
+ghost use Rattle.pi_bytes.specs.Numbers.{most_bytes, word_end};
 ghost use Rattle.pi_format.specs.Rules.CodeItems.{code_lies};
 
 use crate::said::add_code;
@@ -7,6 +8,7 @@ use pi_codeitem::{
     Piece, broken_index, broken_payload, handlers, head, holds, lies, lists_at, ranges_hold,
     try_range, units, walk,
 };
+use pi_bytes::numbers::MOST_BYTES;
 use pi_rows::fault::Fault;
 use pi_rows::told::Told;
 use pi_rows::words::numbers_of;
@@ -20,7 +22,7 @@ pub(crate) fn follow_code(
     verb: &str,
     rest: &str,
 ) -> Result<(), Fault>
-    requires { length file.now ≤ 16777216 }
+    requires { length file.now ≤ most_bytes }
 {
     let numbers = numbers_of::<i64>(alloc, rest)?;
     let [place, further @ ..] = numbers.as_slice() else {
@@ -51,8 +53,8 @@ fn word(number: i64) -> Result<u32, Fault> {
 /// Adds what a code item is.
 fn add_item(told: &mut Told, alloc: Global, file: &[u8], at: usize, words: u32) -> Result<(), Fault>
     requires header { 112 ≤ length file.now }
-    requires small { length file.now ≤ 16777216 }
-    requires place { at < 4294967296 }
+    requires small { length file.now ≤ most_bytes }
+    requires place { at < word_end }
 {
     told.line_of("holds", &holds(alloc, file, at, words)?)?;
     if !lies(file, at) {
@@ -65,7 +67,7 @@ fn add_item(told: &mut Told, alloc: Global, file: &[u8], at: usize, words: u32) 
 
 /// Adds the head and the ranges.
 fn add_head(told: &mut Told, file: &[u8], at: usize) -> Result<(), Fault>
-    requires place { at < 4294967296 }
+    requires place { at < word_end }
     requires lies { code_lies file.now at ≡ true }
 {
     let head = head(file, at);
@@ -89,8 +91,8 @@ fn add_head(told: &mut Told, file: &[u8], at: usize) -> Result<(), Fault>
 
 fn add_lists(told: &mut Told, alloc: Global, file: &[u8], at: usize) -> Result<(), Fault>
     requires header { 112 ≤ length file.now }
-    requires small { length file.now ≤ 16777216 }
-    requires place { at < 4294967296 }
+    requires small { length file.now ≤ most_bytes }
+    requires place { at < word_end }
     requires lies { code_lies file.now at ≡ true }
 {
     let Some(lists) = handlers(alloc, file, at)? else {
@@ -111,7 +113,7 @@ fn add_walk(told: &mut Told, alloc: Global, file: &[u8], at: usize) -> Result<()
 {
     let units = units(alloc, file, at)?;
     told.line_of("units", &units)?;
-    if units.len() > 16777216 {
+    if units.len() > MOST_BYTES {
         return Ok(());
     }
     let walk = walk(alloc, units.as_slice())?;
@@ -146,8 +148,8 @@ fn add_spelled(told: &mut Told, piece: &Piece<'_>) -> Result<(), Fault> {
 
 fn add_list(told: &mut Told, alloc: Global, file: &[u8], at: usize, list: u32) -> Result<(), Fault>
     requires header { 112 ≤ length file.now }
-    requires small { length file.now ≤ 16777216 }
-    requires place { at < 4294967296 }
+    requires small { length file.now ≤ most_bytes }
+    requires place { at < word_end }
     requires lies { code_lies file.now at ≡ true }
 {
     match handlers(alloc, file, at)? {
@@ -159,10 +161,10 @@ fn add_list(told: &mut Told, alloc: Global, file: &[u8], at: usize, list: u32) -
 /// The units of a code item.
 fn few_units(alloc: Global, file: &[u8], at: usize) -> Result<Vec<u16>, Fault>
     requires lies { code_lies file.now at ≡ true }
-    ensures { IfOk result (λ units. length units.items ≤ 16777216) }
+    ensures { IfOk result (λ units. length units.items ≤ most_bytes) }
 {
     let units = units(alloc, file, at)?;
-    if units.len() > 16777216 {
+    if units.len() > MOST_BYTES {
         return Err(Fault::NoRow);
     }
     Ok(units)

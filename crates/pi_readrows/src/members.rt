@@ -1,5 +1,6 @@
 // The class data and the static values of a file, class by class, and flags.
 ghost use Rattle.std.specs.Prelude.{◌≡◌, ◌≤◌, length};
+ghost use Rattle.pi_bytes.specs.Numbers.{most_bytes};
 ghost use Rattle.pi_format.specs.Tables.{count_at, class_defs};
 ghost use Rattle.pi_format.specs.Rules.ClassData.{rows_of};
 ghost use Rattle.pi_format.specs.Rules.Lowest.{tabulation};
@@ -35,7 +36,7 @@ pub(crate) fn add_flags(told: &mut Told, number: u32) -> Result<(), Fault> {
 
 /// Adds what a file says of members.
 pub(crate) fn add_members(told: &mut Told, alloc: Global, file: &[u8]) -> Result<(), Fault>
-    requires { length file.now ≤ 16777216 }
+    requires { length file.now ≤ most_bytes }
 {
     let raw = match Raw::new(alloc, file) {
         Ok(raw) => raw,

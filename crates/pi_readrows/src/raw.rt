@@ -1,5 +1,6 @@
 // The tables of a file.
 ghost use Rattle.std.specs.Prelude.{◌≤◌, length};
+ghost use Rattle.pi_bytes.specs.Numbers.{most_bytes};
 
 use pi_dexraw::Raw;
 use pi_rows::fault::Fault;
@@ -8,7 +9,7 @@ use std::alloc::Global;
 
 /// Adds all that tables lend, or the rule that they break.
 pub(crate) fn add_tables(told: &mut Told, alloc: Global, file: &[u8]) -> Result<(), Fault>
-    requires { length file.now ≤ 16777216 }
+    requires { length file.now ≤ most_bytes }
 {
     let raw = match Raw::new(alloc, file) {
         Ok(raw) => raw,
@@ -27,7 +28,7 @@ pub(crate) fn add_tables(told: &mut Told, alloc: Global, file: &[u8]) -> Result<
 
 /// Adds the sizes of tables, and how many bytes and units all strings have.
 pub(crate) fn add_table_sizes(told: &mut Told, alloc: Global, file: &[u8]) -> Result<(), Fault>
-    requires { length file.now ≤ 16777216 }
+    requires { length file.now ≤ most_bytes }
 {
     let raw = match Raw::new(alloc, file) {
         Ok(raw) => raw,

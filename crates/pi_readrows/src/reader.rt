@@ -24,6 +24,7 @@ use crate::chain::{add_all, add_sizes, no_files};
 use crate::code::follow_code;
 use crate::members::{add_flags, add_members};
 use crate::raw::{add_table_sizes, add_tables};
+use pi_bytes::numbers::MOST_BYTES;
 use pi_model::numbers::{ClassNo, FileNo, NameNo};
 use pi_model::prog::Prog;
 use pi_rows::fault::Fault;
@@ -80,7 +81,7 @@ impl Subject for Reader {
 
 /// Follows a row on a file.
 fn ask(told: &mut Told, alloc: Global, file: &[u8], verb: &str, rest: &str) -> Result<(), Fault> {
-    if file.len() > 16777216 {
+    if file.len() > MOST_BYTES {
         return Err(Fault::NoRow);
     }
     match verb {

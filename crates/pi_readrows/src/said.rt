@@ -1,8 +1,10 @@
 // The code that a code item of a file says, where string k of the file has the name 100 + k.
 ghost use Rattle.std.specs.Prelude.{◌≡◌, ◌<◌, ◌≤◌, length, true, None, OnOk};
+ghost use Rattle.pi_bytes.specs.Numbers.{most_bytes, word_end};
 ghost use Rattle.pi_format.specs.Rules.CodeItems.{code_lies};
 ghost use Rattle.pi_format.specs.Rules.Pieces.{index_holds, first_insn, code_walk};
 
+use pi_bytes::numbers::MOST_BYTES;
 use pi_codeitem::{broken_index, handlers, lies, units, walk};
 use pi_dexcode::{Named, code};
 use pi_dexraw::Raw;
@@ -13,8 +15,8 @@ use std::alloc::{AllocError, Global};
 
 /// Adds the code at a place of a file that breaks no rule on tables.
 pub(crate) fn add_code(told: &mut Told, alloc: Global, file: &[u8], at: usize) -> Result<(), Fault>
-    requires small { length file.now ≤ 16777216 }
-    requires place { at < 4294967296 }
+    requires small { length file.now ≤ most_bytes }
+    requires place { at < word_end }
 {
     let Ok(raw) = Raw::new(alloc, file) else {
         return Err(Fault::NoRow);
@@ -37,7 +39,7 @@ fn numbers(alloc: Global, count: u32) -> Result<Vec<NameNo>, AllocError> {
 
 /// Adds the code of a code item as it prints, where its rules hold.
 fn add_said(told: &mut Told, alloc: Global, names: &Named<'_>, at: usize) -> Result<(), Fault>
-    requires { at < 4294967296 }
+    requires { at < word_end }
 {
     let file = names.raw().file();
     if !lies(file, at) {
@@ -57,7 +59,7 @@ fn need_indices(alloc: Global, file: &[u8], at: usize) -> Result<(), Fault>
     ensures { OnOk result (first_insn (λ _ i. index_holds file.now i.body) (code_walk file.now at).pieces ≡ None) }
 {
     let units = units(alloc, file, at)?;
-    if units.len() > 16777216 {
+    if units.len() > MOST_BYTES {
         return Err(Fault::NoRow);
     }
     let walk = walk(alloc, units.as_slice())?;

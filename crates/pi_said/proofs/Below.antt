@@ -6,6 +6,7 @@ use Rattle.std.proofs.lemmas.Bool.{and_from, eq-eqb}
 use Rattle.pi_model.specs.declared.describe.Init.{Init}
 use Rattle.pi_model.specs.declared.describe.Init.TheVariants.{Zero, Word, Long}
 use Rattle.pi_model.specs.Uses.{name_below, names_below, optional_below, field_ref_below, method_ref_below, insn_below, line_below, catch_below, code_below, init_below, field_below, method_below, class_below}
+use Rattle.pi_bytes.specs.Numbers.{no_index}
 use Rattle.pi_insn.specs.declared.raw.RawBody.{RawBody}
 use Rattle.pi_insn.specs.declared.raw.RawBody.TheVariants.{ConstString, ConstClass, CheckCast, InstanceOf, NewInstance, NewArray, Filled, Iget, Iput, Sget, Sput, Invoke}
 use Rattle.pi_format.specs.Rules.Entries.{list_at}
@@ -146,7 +147,7 @@ unfolding class_desc
 class_is count n below number i =
     let e = class_entry n.file i in
     both _ _ (type_below count n below e.class)
-    (both _ _ (choice (optional_below count) (e.parent == 0xffffffff) None (Some (type_name n e.parent)) refl (type_below count n below e.parent))
+    (both _ _ (choice (optional_below count) (e.parent == no_index) None (Some (type_name n e.parent)) refl (type_below count n below e.parent))
     (both _ _ (types_below count n below (list_at n.file e.faces))
     (both _ _ (fields_are count n below i) (map_all (method_below count) (method_desc n) (methods_in (rows_of n.file i)) (method_is count n below)))))
 

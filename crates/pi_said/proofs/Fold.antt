@@ -10,6 +10,7 @@ use Rattle.pi_model.specs.Program.{Program, no_files, new_types, new_types_bound
 use Rattle.pi_model.specs.Uses.{name_below, class_below}
 use Rattle.pi_model.specs.Valid.{of_file, FitsBehind, IsProgram}
 use Rattle.pi_model.proofs.Kept.{kept_at_first, kept_behind}
+use Rattle.pi_bytes.specs.Numbers.{most_bytes}
 use Rattle.pi_format.specs.Tables.{count_at, string_ids, type_ids, class_defs}
 use Rattle.pi_format.specs.Rules.{broken_rule}
 use Rattle.pi_format.specs.Rules.Strings.{string_units}
@@ -57,7 +58,7 @@ string_for_type file tables some = let there = type_named file 0 tables.types so
 type_for_class : (file : List ℕ) → TablesHold file → 0 < count_at file class_defs → 0 < count_at file type_ids
 type_for_class file tables some = let there = (class_kept file 0 tables.classes some).class in omega arith
 
-pub said_fits : (p : Program) (file : List ℕ) → IsProgram p → HasRoom p → length p.files < 8 → length file ≤ 16777216 → broken_rule file ≡ None
+pub said_fits : (p : Program) (file : List ℕ) → IsProgram p → HasRoom p → length p.files < 8 → length file ≤ most_bytes → broken_rule file ≡ None
     → FitsBehind p (new_names p.names (texts_of file)) (types_said (named_file p file)) (classes_said (named_file p file) (length p.files))
 said_fits p file keeps room few short kept =
     let n : Named = named_file p file in
@@ -81,7 +82,7 @@ said_fits p file keeps room few short kept =
           (λ k lt. class_is count n (strings_below p file (string_for_type file tables (type_for_class file tables (omega arith)))) number k);
     }
 
-pub said_keeps : (p : Program) (file : List ℕ) → IsProgram p → HasRoom p → length p.files < 8 → length file ≤ 16777216 → broken_rule file ≡ None → IsProgram (with_said p file)
+pub said_keeps : (p : Program) (file : List ℕ) → IsProgram p → HasRoom p → length p.files < 8 → length file ≤ most_bytes → broken_rule file ≡ None → IsProgram (with_said p file)
 unfolding with_said
 said_keeps p file keeps room few short kept =
     kept_behind p (new_names p.names (texts_of file)) (types_said (named_file p file)) (classes_said (named_file p file) (length p.files)) keeps (said_fits p file keeps room few short kept)
@@ -90,7 +91,7 @@ one_file_more : (p : Program) (file : List ℕ) → length (with_said p file).fi
 unfolding with_said
 one_file_more p file = length_push p.files _
 
-pub said_has_room : (p : Program) (file : List ℕ) → HasRoom p → length file ≤ 16777216 → broken_rule file ≡ None → HasRoom (with_said p file)
+pub said_has_room : (p : Program) (file : List ℕ) → HasRoom p → length file ≤ most_bytes → broken_rule file ≡ None → HasRoom (with_said p file)
 unfolding with_said
 said_has_room p file room short kept =
     let n : Named = named_file p file in
@@ -107,11 +108,11 @@ said_has_room p file room short kept =
 
 -- files one after the other
 room_behind : (before : Program) (files : List (List ℕ)) (after : Program) → IsProgram before → HasRoom before → length before.files + length files ≤ 8
-    → All (λ file. length file ≤ 16777216) files → SaysBehind before files after → IsProgram after × HasRoom after × (length after.files ≡ length before.files + length files)
+    → All (λ file. length file ≤ most_bytes) files → SaysBehind before files after → IsProgram after × HasRoom after × (length after.files ≡ length before.files + length files)
 room_behind before [] after keeps room few short says =
     subst (λ (p : Program). IsProgram p × HasRoom p × (length p.files ≡ length before.files + 0)) (sym says) (keeps, room, omega arith)
 room_behind before (file ∷ files) after keeps room few short says =
-    let size : length file ≤ 16777216 = short 0 [] (omega arith) in
+    let size : length file ≤ most_bytes = short 0 [] (omega arith) in
     let kept = says.0.kept in
     let more = one_file_more before file in
     let rest = room_behind (with_said before file) files after
@@ -122,7 +123,7 @@ room_behind before (file ∷ files) after keeps room few short says =
 no_files_room : HasRoom no_files
 no_files_room = record { names = omega arith; types = omega arith; classes = omega arith; fields = omega arith; methods = omega arith }
 
-pub said_program : (files : List (List ℕ)) (p : Program) → Says files p → length files ≤ 8 → All (λ file. length file ≤ 16777216) files
+pub said_program : (files : List (List ℕ)) (p : Program) → Says files p → length files ≤ 8 → All (λ file. length file ≤ most_bytes) files
     → IsProgram p × HasRoom p × (length p.files ≡ length files)
 said_program files p says few short =
     let all = room_behind no_files files p kept_at_first no_files_room (omega arith) short says in

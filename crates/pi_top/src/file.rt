@@ -1,6 +1,7 @@
 // A file that was read: its rules, the program that it says, and the run of that program. docs/commands.md states the
 // order of work.
 ghost use Rattle.std.specs.Prelude.{◌≡◌, ◌≤◌, length, List, ℕ, Some};
+ghost use Rattle.pi_bytes.specs.Numbers.{most_bytes};
 ghost use Rattle.pi_base.specs.Outside.{Counts};
 ghost use Rattle.pi_duty.specs.Duty.{LazyOwes};
 ghost use Rattle.pi_top.specs.Outcome.{FileGives, NoWrite};
@@ -26,7 +27,7 @@ pub fn run_file<O: Sink>(
     file: &[u8],
     out: &mut O,
 ) -> Result<RunEnd, FileFault>
-    requires { length file.now ≤ 16777216 }
+    requires { length file.now ≤ most_bytes }
     ensures gives { (name : List ℕ) → FileGives name (LazyOwes (record { file = name; main = main.now; steps = steps }) (Some file.now)) NoWrite result (O.view out.old) (O.view out.new) }
     ensures out_faults { Counts (ends_in_out_fault result) (O.view out.old).faults (O.view out.new).faults }
 {

@@ -4,7 +4,7 @@ use Rattle.std.specs.List.{list_all}
 use Rattle.std.specs.Prelude.{nat_eq}
 use Rattle.pi_model.specs.Distinct.{all_distinct}
 use Rattle.pi_model.specs.Texts.{same_text}
-use Rattle.pi_bytes.specs.Numbers.{word_at}
+use Rattle.pi_bytes.specs.Numbers.{word_at, no_index}
 use Rattle.pi_format.specs.Tables.{count_at, type_ids, class_defs}
 use Rattle.pi_format.specs.Rules.Entries.{entry_at, broken_entry, some_from, list_fits, list_at}
 use Rattle.pi_format.specs.Rules.Descriptors.{is_class_type}
@@ -41,7 +41,7 @@ is_object file t = same_text (codes "Ljava/lang/Object;") (type_units file t)
 -- exactly Object has no superclass; any other has a type, which stands earlier if the file defines it
 unfoldable pub parent_holds : List ℕ → ℕ → ClassEntry → Bool
 parent_holds file i e =
-    if e.parent == 0xffffffff then is_object file e.class
+    if e.parent == no_index then is_object file e.class
     else not (is_object file e.class) && (nat_lt e.parent (count_at file type_ids) && stands_earlier file i e.parent)
 
 -- interfaces are distinct classes, each of which stands earlier if the file defines it

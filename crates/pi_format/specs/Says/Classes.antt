@@ -6,6 +6,7 @@ use Rattle.pi_model.specs.declared.describe.FieldDesc.{FieldDesc}
 use Rattle.pi_model.specs.declared.describe.MethodDesc.{MethodDesc}
 use Rattle.pi_model.specs.declared.describe.Init.{Init}
 use Rattle.pi_model.specs.declared.describe.Init.TheVariants.{Zero, Word, Long, Str, Cls}
+use Rattle.pi_bytes.specs.Numbers.{no_index}
 use Rattle.pi_insn.specs.Numbers.{signed_extension}
 use Rattle.pi_format.specs.Tables.{count_at, type_ids, class_defs, field_ids, method_ids}
 use Rattle.pi_format.specs.Rules.Entries.{list_at}
@@ -75,7 +76,7 @@ method_desc n row = record {
 
 -- the superclass, none where the definition has no index of one
 abbrev pub parent_name : Named → ℕ → Option NameNo
-parent_name n t = if t == 0xffffffff then None else Some (type_name n t)
+parent_name n t = if t == no_index then None else Some (type_name n t)
 
 -- the class of a definition, in the file of that number of a chain
 unfoldable pub class_desc : Named → ℕ → ℕ → ClassDesc

@@ -13,13 +13,11 @@ use crate::operands::{read_number, starts_with_dash};
 use crate::outcome::Outcome;
 use pi_base::outside::{Sink, Store, StoreError};
 use pi_base::status::Status;
+use pi_bytes::numbers::MOST_BYTES;
 use std::alloc::Global;
 
 /// The greatest limit on steps.
 const MOST_STEPS: u64 = 1_000_000_000_000;
-
-/// The longest file that is read.
-const MOST_BYTES: usize = 16_777_216;
 
 /// The words of a lazy run: the file's name, the descriptor of the main class, the limit on steps.
 #[derive(Clone, Copy)]

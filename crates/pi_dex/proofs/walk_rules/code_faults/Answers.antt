@@ -1,4 +1,5 @@
 use Rattle.std.proofs.Common.{◌≡◌, ℕ, ◌≤◌, List, length, sym, ap, ◌∙◌, subst, arith}
+use Rattle.pi_bytes.specs.Numbers.{most_bytes}
 use Rattle.pi_format.specs.Rules.Pieces.{unit_of, Walk, walk, code_units, code_walk, index_holds, points_well}
 use Rattle.pi_dex.proofs.Faults.{same_three}
 use Rattle.pi_dex.proofs.Units.{units_few, stop_fits, insn_fits, index_is, payload_is}
@@ -9,7 +10,7 @@ walk-requires c =
     let file = c.args.raw.now in
     let units : c.as_slice.result.now ≡ code_units file c.args.at = c.as_slice.ensures.value ∙ c.in_ok-units.ensures ∙ ap (λ (f : List ℕ). code_units f c.args.at) c.file-file.ensures.value in
     let few = units_few file c.args.at c.requires in
-    subst (λ (us : List ℕ). length us ≤ 16777216) (sym units) (omega (arith, c.file-file.ensures.small, few))
+    subst (λ (us : List ℕ). length us ≤ most_bytes) (sym units) (omega (arith, c.file-file.ensures.small, few))
 
 pub unit_place-requires : goal.unit_place-requires
 unit_place-requires c =

@@ -2,6 +2,7 @@ use Rattle.std.proofs.Common.{◌≡◌, ℕ, ◌+◌, ◌<◌, ◌≤◌, List,
 use Rattle.std.specs.Prelude.{◌==◌, OnOk}
 use Rattle.std.proofs.lemmas.List.{append-nil}
 use Rattle.pi_model.specs.declared.describe.Catch.{Catch}
+use Rattle.pi_bytes.specs.Numbers.{most_bytes, word_end}
 use Rattle.pi_format.specs.Tables.{count_at, type_ids}
 use Rattle.pi_format.specs.Rules.CodeItems.{HandlerList, TryRange, lists_at}
 use Rattle.pi_dexcode.specs.Whole.{NamesTypes}
@@ -12,8 +13,8 @@ pub add_list-requires-clause-ends : goal.add_list-requires-clause-ends
 add_list-requires-clause-ends c =
     let file = c.args.names.now.file in
     let range = whole_range file c.file.result.now c.args.at c.args.head.now c.args.k c.try_range-range.result (c.file.ensures.value ∙ c.raw.ensures) c.requires.head c.try_range-range.ensures in
-    let few = subst (λ (f : List ℕ). length f ≤ 16777216) c.raw.ensures c.file.ensures.small in
-    subst (λ (r : TryRange). r.from + r.size < 4294967296) (sym range)
+    let few = subst (λ (f : List ℕ). length f ≤ most_bytes) c.raw.ensures c.file.ensures.small in
+    subst (λ (r : TryRange). r.from + r.size < word_end) (sym range)
     (range_small file c.args.at c.args.head.now c.args.k few c.requires.lies c.requires.head c.requires.hold c.requires.counted)
 
 pub add_list-requires-clause-types : goal.add_list-requires-clause-types
