@@ -2,8 +2,8 @@
 use Rattle.std.specs.Prelude.{ℕ, ◌+◌, ◌-◌, ◌^◌, min, List, Contains}
 
 -- a counter one further, which stands at the last value of a u64
-abbrev pub raised : ℕ → ℕ
-raised count = min (count + 1) (2 ^ 64 - 1)
+abbrev pub next_count : ℕ → ℕ
+next_count count = min (count + 1) (2 ^ 64 - 1)
 
 -- the next call is one that fails, after so many calls: its number, from 1, is in the list
 abbrev pub NextFails : List ℕ → ℕ → Type 0

@@ -1,7 +1,7 @@
 // The counts of what a store refused. Each is a u64 that stands at its last value.
 // docs/outside.md states the rules.
 ghost use Rattle.std.specs.Prelude.{◌≡◌, true};
-ghost use Rattle.pi_base.specs.Counters.{raised};
+ghost use Rattle.pi_base.specs.Counters.{next_count};
 ghost use Rattle.pi_base.specs.Outside.{Counts, is_failed_error, is_missing_error, is_too_large_error};
 
 use crate::outside::StoreError;
@@ -58,7 +58,7 @@ impl StoreCounts {
 
 /// Makes a count one greater, unless it is at its last value.
 pub(crate) fn raise(count: &mut u64)
-    ensures raised { count.new ≡ raised count.old }
+    ensures raised { count.new ≡ next_count count.old }
     ensures counts { Counts true count.old count.new }
 {
     *count = count.saturating_add(1);

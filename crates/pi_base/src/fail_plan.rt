@@ -1,7 +1,7 @@
 // Which calls of a form in memory fail, by their numbers from 1.
 // docs/outside.md states the rules.
 ghost use Rattle.std.specs.Prelude.{◌≡◌, ◌↔◌, IsTrue, IfOk};
-ghost use Rattle.pi_base.specs.Counters.{NextFails, raised};
+ghost use Rattle.pi_base.specs.Counters.{NextFails, next_count};
 
 use crate::counts::raise;
 use std::alloc::{AllocError, Global};
@@ -28,7 +28,7 @@ impl FailPlan {
     /// Counts a call, and says whether it fails.
     pub(crate) fn next_fails(&mut self) -> bool
         ensures fails { IsTrue result ↔ NextFails self.old.fails.items self.old.calls }
-        ensures counted { self.new.calls ≡ raised self.old.calls }
+        ensures counted { self.new.calls ≡ next_count self.old.calls }
         ensures list_stands { self.new.fails ≡ self.old.fails }
     {
         let fails = self.fails.as_slice();

@@ -1,7 +1,7 @@
 // A sink in memory, with room that is taken when it is made, and with calls that fail by their
 // numbers. docs/outside.md states the rules.
 ghost use Rattle.std.specs.Prelude.{◌≡◌, ℕ, ◌+◌, ◌<◌, ◌≤◌, ◌⊎◌, ◌↔◌, min, length, IfOk, IsErr, OnErr, [], vec_len, vec_capacity};
-ghost use Rattle.pi_base.specs.Counters.{NextFails, raised};
+ghost use Rattle.pi_base.specs.Counters.{NextFails, next_count};
 ghost use Rattle.pi_base.specs.Outside.{TakesFront};
 
 use crate::counts::raise;
@@ -64,7 +64,7 @@ impl Sink for MemSink {
         ensures room_left { IfOk result (λ taken. room_of self.new + taken ≡ room_of self.old) }
         ensures room_stands { OnErr result (room_of self.new ≡ room_of self.old) }
         ensures list_stands { fails_of self.new ≡ fails_of self.old }
-        ensures counts_call { calls_of self.new ≡ raised (calls_of self.old) }
+        ensures counts_call { calls_of self.new ≡ next_count (calls_of self.old) }
     {
         let fails = self.plan.next_fails();
         if fails || (self.room == 0 && !piece.is_empty()) {

@@ -2,7 +2,7 @@
 // numbers. docs/outside.md states the rules.
 ghost use Rattle.std.specs.Prelude.{◌≡◌, ◌≢◌, ◌<◌, ◌≤◌, ◌↔◌, List, ℕ, length, option_map, true, IfOk, IsSomeAnd, OnOk, OnErr, Some, None};
 ghost use Rattle.std.specs.Result.{IsErrOf};
-ghost use Rattle.pi_base.specs.Counters.{NextFails, raised};
+ghost use Rattle.pi_base.specs.Counters.{NextFails, next_count};
 ghost use Rattle.pi_base.specs.Outside.{Finds, Holds, IsFresh, Keeps, KeepsOthers, OthersStand, Raises, no_cause, read_causes, write_causes};
 ghost use Rattle.pi_base.specs.MemStore.{content_in, content_of, view_of, fails_of, calls_of};
 
@@ -75,7 +75,7 @@ impl Store for MemStore {
         ensures failed { IsErrOf result StoreError.Failed ↔ NextFails (fails_of self.old) (calls_of self.old) }
 
         ensures list_stands { fails_of self.new ≡ fails_of self.old }
-        ensures counts_call { calls_of self.new ≡ raised (calls_of self.old) }
+        ensures counts_call { calls_of self.new ≡ next_count (calls_of self.old) }
     {
         let result = if self.plan.next_fails() {
             Err(StoreError::Failed)
@@ -101,7 +101,7 @@ impl Store for MemStore {
         ensures failed { IsErrOf result StoreError.Failed ↔ NextFails (fails_of self.old) (calls_of self.old) }
 
         ensures list_stands { fails_of self.new ≡ fails_of self.old }
-        ensures counts_call { calls_of self.new ≡ raised (calls_of self.old) }
+        ensures counts_call { calls_of self.new ≡ next_count (calls_of self.old) }
     {
         if self.plan.next_fails() {
             self.counts.note_write_fault();

@@ -4,7 +4,7 @@ use Rattle.std.specs.Prelude.{All, nat_lt, nat_le, ◌==◌, ◌&&◌, Bool, if�
 use Rattle.std.proofs.lemmas.Bool.Decides.{nat_tests}
 use Rattle.std.proofs.lemmas.List.{drop_at}
 use Rattle.std.proofs.lemmas.List.Elements.{All-nil, All-cons, All-head, All-tail}
-use Rattle.pi_bytes.specs.Mutf8.{spelling, spelled, two_of, three_of, unit_at, ends_text, prefixed, after_unit, units_from, units_at, Spells, Stops}
+use Rattle.pi_bytes.specs.Mutf8.{spelling, spellings, two_of, three_of, unit_at, ends_text, with_front, after_unit, units_from, units_at, Spells, Stops}
 
 -- a unit that is spelled is read
 pub unit_again : (u : ℕ) (rest : List ℕ) → u < 65536 → unit_at (spelling u ++ rest) ≡ Some (u, length (spelling u))
@@ -75,28 +75,28 @@ unit_is [] x e = cc
 unit_is (a ∷ rest) x e = by_first a rest x (nat_lt 0 a && nat_lt a 128) (nat_le 192 a && nat_lt a 224) (nat_le 224 a && nat_lt a 240) refl refl refl e
 
 -- one unit before others
-spelled-cons : (u : ℕ) (us rest : List ℕ) → spelled (u ∷ us) ++ rest ≡ spelling u ++ (spelled us ++ rest)
-spelled-cons u us rest = append_assoc (spelling u) (spelled us) rest
+spelled-cons : (u : ℕ) (us rest : List ℕ) → spellings (u ∷ us) ++ rest ≡ spelling u ++ (spellings us ++ rest)
+spelled-cons u us rest = append_assoc (spelling u) (spellings us) rest
 
-length-spelled-cons : (u : ℕ) (us : List ℕ) → length (spelled (u ∷ us)) ≡ length (spelling u) + length (spelled us)
-length-spelled-cons u us = length-append (spelling u) (spelled us)
+length-spelled-cons : (u : ℕ) (us : List ℕ) → length (spellings (u ∷ us)) ≡ length (spelling u) + length (spellings us)
+length-spelled-cons u us = length-append (spelling u) (spellings us)
 
 first_again : (n at u : ℕ) (rest : List ℕ) → u < 2 ^ 16
-    → units_from (suc n) at (spelling u ++ rest) ≡ prefixed (u ∷ []) (units_from n (at + length (spelling u)) rest)
+    → units_from (suc n) at (spelling u ++ rest) ≡ with_front (u ∷ []) (units_from n (at + length (spelling u)) rest)
 first_again n at u rest lt = rw (unit_again u rest lt, drop_at (spelling u) rest (length (spelling u)) refl) refl
 
 again_from : (units rest : List ℕ) (at : ℕ) → All (λ u. u < 2 ^ 16) units
-    → units_from (length units) at (spelled units ++ 0 ∷ rest) ≡ Ok (units, at + length (spelled units))
+    → units_from (length units) at (spellings units ++ 0 ∷ rest) ≡ Ok (units, at + length (spellings units))
 again_from [] rest at all = ap (λ (n : ℕ). Ok ([], n)) (sym (add-zero at))
 again_from (u ∷ us) rest at all =
     let more = again_from us rest (at + length (spelling u)) (All-tail (λ v. v < 2 ^ 16) u us all) in
-    let place : at + length (spelling u) + length (spelled us) ≡ at + length (spelled (u ∷ us)) = omega (arith, length-spelled-cons u us) in
-    rw (spelled-cons u us (0 ∷ rest), first_again (length us) at u (spelled us ++ 0 ∷ rest) (All-head (λ v. v < 2 ^ 16) u us all), more, place) refl
+    let place : at + length (spelling u) + length (spellings us) ≡ at + length (spellings (u ∷ us)) = omega (arith, length-spelled-cons u us) in
+    rw (spelled-cons u us (0 ∷ rest), first_again (length us) at u (spellings us ++ 0 ∷ rest) (All-head (λ v. v < 2 ^ 16) u us all), more, place) refl
 
 pub units_again : (units rest : List ℕ) → All (λ u. u < 2 ^ 16) units
-    → units_at (length units) (spelled units ++ 0 ∷ rest) ≡ Ok (units, length (spelled units))
+    → units_at (length units) (spellings units ++ 0 ∷ rest) ≡ Ok (units, length (spellings units))
 unfolding units_at
-units_again units rest all = rw (again_from units rest 0 all, zero-add (length (spelled units))) refl
+units_again units rest all = rw (again_from units rest 0 all, zero-add (length (spellings units))) refl
 
 -- what stands behind a place in each outcome
 pub record Stopped (count : ℕ) (bytes : List ℕ) (at i : ℕ) : Type 0 where
@@ -106,7 +106,7 @@ pub record Stopped (count : ℕ) (bytes : List ℕ) (at i : ℕ) : Type 0 where
 
 pub record Read (count : ℕ) (bytes : List ℕ) (at : ℕ) (x : List ℕ × ℕ) : Type 0 where
   pub counted : length x.0 ≡ count
-  pub place : x.1 ≡ at + length (spelled x.0)
+  pub place : x.1 ≡ at + length (spellings x.0)
   pub spells : Spells x.0 bytes
 
 abbrev pub Reads : ℕ → List ℕ → ℕ → Result (List ℕ × ℕ) ℕ → Type 0
@@ -160,16 +160,16 @@ no_unit_here n at bytes e = record {
     none_some bytes x f t = cc
 
 -- a unit and what was read behind it
-spelt_more : (bytes : List ℕ) (x : ℕ × ℕ) (us rest : List ℕ) → IsUnit bytes x → drop x.1 bytes ≡ spelled us ++ rest
-    → bytes ≡ spelled (x.0 ∷ us) ++ rest
+spelt_more : (bytes : List ℕ) (x : ℕ × ℕ) (us rest : List ℕ) → IsUnit bytes x → drop x.1 bytes ≡ spellings us ++ rest
+    → bytes ≡ spellings (x.0 ∷ us) ++ rest
 spelt_more bytes x us rest u e = u.spelt ∙ ap (λ (bs : List ℕ). spelling x.0 ++ bs) e ∙ sym (spelled-cons x.0 us rest)
 
 place_more : (at : ℕ) (x : ℕ × ℕ) (us : List ℕ) (bytes : List ℕ) → IsUnit bytes x
-    → at + x.1 + length (spelled us) ≡ at + length (spelled (x.0 ∷ us))
+    → at + x.1 + length (spellings us) ≡ at + length (spellings (x.0 ∷ us))
 place_more at x us bytes u = omega (arith, u.taken, length-spelled-cons x.0 us)
 
 reads_more : (n at : ℕ) (bytes : List ℕ) (x : ℕ × ℕ) (t : Result (List ℕ × ℕ) ℕ) → IsUnit bytes x
-    → Reads n (drop x.1 bytes) (at + x.1) t → Reads (suc n) bytes at (prefixed (x.0 ∷ []) t)
+    → Reads n (drop x.1 bytes) (at + x.1) t → Reads (suc n) bytes at (with_front (x.0 ∷ []) t)
 reads_more n at bytes x (Ok y) u w = record {
   counted = ap suc w.counted;
   place = w.place ∙ place_more at x y.0 bytes u;
@@ -196,7 +196,7 @@ reads_more n at bytes x (Err i) u w = record {
 
 reads_unit : (n at : ℕ) (bytes : List ℕ) (o : Option (ℕ × ℕ)) → unit_at bytes ≡ o
     → ((k : ℕ) → Reads n (drop k bytes) (at + k) (units_from n (at + k) (drop k bytes)))
-    → Reads (suc n) bytes at (after_unit at o (λ u k. prefixed (u ∷ []) (units_from n (at + k) (drop k bytes))))
+    → Reads (suc n) bytes at (after_unit at o (λ u k. with_front (u ∷ []) (units_from n (at + k) (drop k bytes))))
 reads_unit n at bytes None e later = no_unit_here n at bytes e
 reads_unit n at bytes (Some x) e later =
     reads_more n at bytes x (units_from n (at + x.1) (drop x.1 bytes)) (unit_is bytes x e) (later x.1)
@@ -215,7 +215,7 @@ units_counted count bytes units at e = (read_of count bytes units at e).counted
 pub units_spelled : (count : ℕ) (bytes units : List ℕ) (at : ℕ) → units_at count bytes ≡ Ok (units, at) → Spells units bytes
 units_spelled count bytes units at e = (read_of count bytes units at e).spells
 
-pub units_before : (count : ℕ) (bytes units : List ℕ) (at : ℕ) → units_at count bytes ≡ Ok (units, at) → at ≡ length (spelled units)
+pub units_before : (count : ℕ) (bytes units : List ℕ) (at : ℕ) → units_at count bytes ≡ Ok (units, at) → at ≡ length (spellings units)
 units_before count bytes units at e = omega (arith, (read_of count bytes units at e).place)
 
 pub bad_stops : (count : ℕ) (bytes : List ℕ) (at : ℕ) → units_at count bytes ≡ Err at → Stops count bytes at
@@ -244,16 +244,16 @@ none_at bytes h = by_unit (unit_at bytes) refl
 stops_from : (units rest : List ℕ) (count at : ℕ) → All (λ u. u < 2 ^ 16) units → length units ≤ count
     → (length units < count → (u : ℕ) (behind : List ℕ) → u < 2 ^ 16 → rest ≢ spelling u ++ behind)
     → (length units ≡ count → (behind : List ℕ) → rest ≢ 0 ∷ behind)
-    → units_from count at (spelled units ++ rest) ≡ Err (at + length (spelled units))
+    → units_from count at (spellings units ++ rest) ≡ Err (at + length (spellings units))
 stops_from [] rest zero at all few no_unit no_end = rw (ends_not rest (no_end refl), add-zero at) refl
 stops_from [] rest (suc n) at all few no_unit no_end = rw (none_at rest (no_unit (omega arith)), add-zero at) refl
 stops_from (u ∷ us) rest zero at all few no_unit no_end = absurd (omega arith)
 stops_from (u ∷ us) rest (suc n) at all few no_unit no_end =
     let more = stops_from us rest n (at + length (spelling u)) (All-tail (λ v. v < 2 ^ 16) u us all) (omega arith) (λ lt. no_unit (omega arith)) (λ same. no_end (omega arith)) in
-    let place : at + length (spelling u) + length (spelled us) ≡ at + length (spelled (u ∷ us)) = omega (arith, length-spelled-cons u us) in
-    rw (spelled-cons u us rest, first_again n at u (spelled us ++ rest) (All-head (λ v. v < 2 ^ 16) u us all), more, place) refl
+    let place : at + length (spelling u) + length (spellings us) ≡ at + length (spellings (u ∷ us)) = omega (arith, length-spelled-cons u us) in
+    rw (spelled-cons u us rest, first_again n at u (spellings us ++ rest) (All-head (λ v. v < 2 ^ 16) u us all), more, place) refl
 
 pub stops_bad : (count : ℕ) (bytes : List ℕ) (at : ℕ) → Stops count bytes at → units_at count bytes ≡ Err at
 unfolding units_at
 stops_bad count bytes at w =
-    rw (w.spelt, w.before, stops_from w.units w.rest count 0 w.are_units w.few w.no_unit w.no_end, zero-add (length (spelled w.units))) refl
+    rw (w.spelt, w.before, stops_from w.units w.rest count 0 w.are_units w.few w.no_unit w.no_end, zero-add (length (spellings w.units))) refl

@@ -6,9 +6,9 @@ use Rattle.std.proofs.lemmas.List.{length-take-le}
 use Rattle.std.proofs.lemmas.List.Elements.{All-nil, All-cons, All-head, All-tail}
 use Rattle.pi_bytes.specs.declared.fault.ReadFault.{ReadFault}
 use Rattle.pi_bytes.specs.declared.fault.ReadFault.TheVariants.{Short, LongLeb}
-use Rattle.pi_bytes.specs.Reading.{◌>>=◌, Gives, placed}
+use Rattle.pi_bytes.specs.Reading.{◌>>=◌, Gives, reading_at}
 use Rattle.pi_bytes.specs.Leb.{ends_uleb, ends_sleb, uleb_by, last_signed, sleb_by, sevens, signed_sevens, IsWhole, EndsInside, IsTooLong, uleb_at, sleb_at}
-use Rattle.pi_bytes.specs.Place.{Place, ahead, behind, between}
+use Rattle.pi_bytes.specs.Place.{Place, bytes_from, place_behind, bytes_between}
 
 -- a byte that says that another follows
 pub goes_on : (b : ℕ) → 128 ≤ b → nat_lt b 128 ≡ false
@@ -195,138 +195,138 @@ sleb_read zero (b ∷ rest) = sleb_last b rest (ends_sleb b)
 sleb_read (suc more) (b ∷ rest) =
     sleb_more_read more b rest (sleb_by more rest) (nat_lt b 128) (sleb_stands more rest) (sleb_read more rest)
 
-between-behind : (n : ℕ) (p : Place) → between p (behind n p) ≡ take n (ahead p)
+between-behind : (n : ℕ) (p : Place) → bytes_between p (place_behind n p) ≡ take n (bytes_from p)
 between-behind n p =
     let same : p.at + n - p.at ≡ n = omega arith in
     rw same refl
 
-inside_of : (n : ℕ) (p : Place) → p.at ≤ length p.bytes → n ≤ length (ahead p) → p.at + n ≤ length p.bytes
+inside_of : (n : ℕ) (p : Place) → p.at ≤ length p.bytes → n ≤ length (bytes_from p) → p.at + n ≤ length p.bytes
 inside_of n p within few = omega (arith, length-drop p.at p.bytes)
 
 -- what a call that moves behind what was read answers
-ok_value : {A : Type 0} (p q : Place) (y : A × ℕ) (x : A) → placed p (Ok y) ≡ Ok (x, q) → y.0 ≡ x
+ok_value : {A : Type 0} (p q : Place) (y : A × ℕ) (x : A) → reading_at p (Ok y) ≡ Ok (x, q) → y.0 ≡ x
 ok_value {A} p q y x e =
-    let same : (y.0, behind y.1 p) ≡ (x, q) = cc in
+    let same : (y.0, place_behind y.1 p) ≡ (x, q) = cc in
     ap (λ (r : A × Place). r.0) same
 
-ok_place : {A : Type 0} (p q : Place) (y : A × ℕ) (x : A) → placed p (Ok y) ≡ Ok (x, q) → behind y.1 p ≡ q
+ok_place : {A : Type 0} (p q : Place) (y : A × ℕ) (x : A) → reading_at p (Ok y) ≡ Ok (x, q) → place_behind y.1 p ≡ q
 ok_place {A} p q y x e =
-    let same : (y.0, behind y.1 p) ≡ (x, q) = cc in
+    let same : (y.0, place_behind y.1 p) ≡ (x, q) = cc in
     ap (λ (r : A × Place). r.1) same
 
-between-ok : {A : Type 0} (p q : Place) (y : A × ℕ) (x : A) → placed p (Ok y) ≡ Ok (x, q) → between p q ≡ take y.1 (ahead p)
+between-ok : {A : Type 0} (p q : Place) (y : A × ℕ) (x : A) → reading_at p (Ok y) ≡ Ok (x, q) → bytes_between p q ≡ take y.1 (bytes_from p)
 between-ok p q y x e = rw (← ok_place p q y x e) (between-behind y.1 p)
 
 value_of : {A : Type 0} (value : List ℕ → A) (p q : Place) (t : Result (A × ℕ) ReadFault) (r : Result A ReadFault)
-    → IsRead value (ahead p) t → Gives (λ (x : A). x) (placed p t) q r → IfOk r (λ x. x ≡ value (between p q))
+    → IsRead value (bytes_from p) t → Gives (λ (x : A). x) (reading_at p t) q r → IfOk r (λ x. x ≡ value (bytes_between p q))
 value_of value p q (Ok y) (Ok x) read e = rw (between-ok p q y x e, ← ok_value p q y x e) read
 value_of value p q (Err f) (Ok x) read e = cc
 value_of value p q (Ok y) (Err f) read e = tt
 value_of value p q (Err g) (Err f) read e = tt
 
 whole_of : {A : Type 0} (ends : ℕ → Bool) (more : ℕ) (p q : Place) (t : Result (A × ℕ) ReadFault) (r : Result A ReadFault)
-    → Stands ends more (ahead p) t → Gives (λ (x : A). x) (placed p t) q r → OnOk r (IsWhole ends more (between p q))
+    → Stands ends more (bytes_from p) t → Gives (λ (x : A). x) (reading_at p t) q r → OnOk r (IsWhole ends more (bytes_between p q))
 whole_of ends more p q (Ok y) (Ok x) read e = rw (between-ok p q y x e) read.1
 whole_of ends more p q (Err f) (Ok x) read e = cc
 whole_of ends more p q (Ok y) (Err f) read e = tt
 whole_of ends more p q (Err g) (Err f) read e = tt
 
 moved_of : {A : Type 0} (ends : ℕ → Bool) (more : ℕ) (p q : Place) (t : Result (A × ℕ) ReadFault) (r : Result A ReadFault)
-    → Stands ends more (ahead p) t → Gives (λ (x : A). x) (placed p t) q r → OnOk r (q ≡ behind (length (between p q)) p)
+    → Stands ends more (bytes_from p) t → Gives (λ (x : A). x) (reading_at p t) q r → OnOk r (q ≡ place_behind (length (bytes_between p q)) p)
 moved_of ends more p q (Ok y) (Ok x) read e =
-    rw (between-ok p q y x e, length-take-le y.1 (ahead p) read.0) (sym (ok_place p q y x e))
+    rw (between-ok p q y x e, length-take-le y.1 (bytes_from p) read.0) (sym (ok_place p q y x e))
 moved_of ends more p q (Err f) (Ok x) read e = cc
 moved_of ends more p q (Ok y) (Err f) read e = tt
 moved_of ends more p q (Err g) (Err f) read e = tt
 
 -- the fault is that of the reading
 fault_of : {A : Type 0} (p q : Place) (t : Result (A × ℕ) ReadFault) (r : Result A ReadFault) (fault : ReadFault)
-    → Gives (λ (x : A). x) (placed p t) q r → (r ≡ Err fault → t ≡ Err fault) × (t ≡ Err fault → r ≡ Err fault)
+    → Gives (λ (x : A). x) (reading_at p t) q r → (r ≡ Err fault → t ≡ Err fault) × (t ≡ Err fault → r ≡ Err fault)
 fault_of p q (Ok y) (Ok x) fault e = (λ h. cc, λ h. cc)
 fault_of p q (Err f) (Ok x) fault e = (λ h. cc, λ h. cc)
 fault_of p q (Ok y) (Err f) fault e = (λ h. cc, λ h. cc)
 fault_of p q (Err g) (Err f) fault e = (λ h. cc, λ h. cc)
 
 pub uleb_gives : (p q : Place) (bytes : List ℕ) (t : Result (ℕ × ℕ) ReadFault) (r : Result ℕ ReadFault)
-    → t ≡ uleb_by 4 bytes → bytes ≡ ahead p → Gives (λ (x : ℕ). x) (placed p t) q r → Gives (λ (x : ℕ). x) (uleb_at p) q r
+    → t ≡ uleb_by 4 bytes → bytes ≡ bytes_from p → Gives (λ (x : ℕ). x) (reading_at p t) q r → Gives (λ (x : ℕ). x) (uleb_at p) q r
 unfolding uleb_at
 uleb_gives p q bytes t r e f h = rw (e, f) at h
 
 pub uleb_value : (p q : Place) (r : Result ℕ ReadFault) → Gives (λ (x : ℕ). x) (uleb_at p) q r
-    → IfOk r (λ x. x ≡ sevens (between p q))
+    → IfOk r (λ x. x ≡ sevens (bytes_between p q))
 unfolding uleb_at
-uleb_value p q r e = value_of sevens p q (uleb_by 4 (ahead p)) r (uleb_read 4 (ahead p)) e
+uleb_value p q r e = value_of sevens p q (uleb_by 4 (bytes_from p)) r (uleb_read 4 (bytes_from p)) e
 
 pub uleb_whole : (p q : Place) (r : Result ℕ ReadFault) → Gives (λ (x : ℕ). x) (uleb_at p) q r
-    → OnOk r (IsWhole ends_uleb 4 (between p q))
+    → OnOk r (IsWhole ends_uleb 4 (bytes_between p q))
 unfolding uleb_at
-uleb_whole p q r e = whole_of ends_uleb 4 p q (uleb_by 4 (ahead p)) r (uleb_stands 4 (ahead p)) e
+uleb_whole p q r e = whole_of ends_uleb 4 p q (uleb_by 4 (bytes_from p)) r (uleb_stands 4 (bytes_from p)) e
 
 pub uleb_moved : (p q : Place) (r : Result ℕ ReadFault) → Gives (λ (x : ℕ). x) (uleb_at p) q r
-    → OnOk r (q ≡ behind (length (between p q)) p)
+    → OnOk r (q ≡ place_behind (length (bytes_between p q)) p)
 unfolding uleb_at
-uleb_moved p q r e = moved_of ends_uleb 4 p q (uleb_by 4 (ahead p)) r (uleb_stands 4 (ahead p)) e
+uleb_moved p q r e = moved_of ends_uleb 4 p q (uleb_by 4 (bytes_from p)) r (uleb_stands 4 (bytes_from p)) e
 
 pub uleb_short : (p q : Place) (r : Result ℕ ReadFault) → Gives (λ (x : ℕ). x) (uleb_at p) q r
-    → (r ≡ Err Short) ↔ EndsInside 4 (ahead p)
+    → (r ≡ Err Short) ↔ EndsInside 4 (bytes_from p)
 unfolding uleb_at
 uleb_short p q r e =
-    let same = fault_of p q (uleb_by 4 (ahead p)) r Short e in
-    (λ h. rw (same.0 h) at (uleb_stands 4 (ahead p)), λ w. same.1 (uleb_short_by 4 (ahead p) w.go_on w.few))
+    let same = fault_of p q (uleb_by 4 (bytes_from p)) r Short e in
+    (λ h. rw (same.0 h) at (uleb_stands 4 (bytes_from p)), λ w. same.1 (uleb_short_by 4 (bytes_from p) w.go_on w.few))
 
 pub uleb_long : (p q : Place) (r : Result ℕ ReadFault) → Gives (λ (x : ℕ). x) (uleb_at p) q r
-    → (r ≡ Err LongLeb) ↔ IsTooLong ends_uleb 4 (ahead p)
+    → (r ≡ Err LongLeb) ↔ IsTooLong ends_uleb 4 (bytes_from p)
 unfolding uleb_at
 uleb_long p q r e =
-    let same = fault_of p q (uleb_by 4 (ahead p)) r LongLeb e in
-    (λ h. rw (same.0 h) at (uleb_stands 4 (ahead p)), λ w. same.1 (long_uleb_by (ahead p) w))
+    let same = fault_of p q (uleb_by 4 (bytes_from p)) r LongLeb e in
+    (λ h. rw (same.0 h) at (uleb_stands 4 (bytes_from p)), λ w. same.1 (long_uleb_by (bytes_from p) w))
 
 pub sleb_gives : (p q : Place) (bytes : List ℕ) (t : Result (ℤ × ℕ) ReadFault) (r : Result ℤ ReadFault)
-    → t ≡ sleb_by 4 bytes → bytes ≡ ahead p → Gives (λ (x : ℤ). x) (placed p t) q r → Gives (λ (x : ℤ). x) (sleb_at p) q r
+    → t ≡ sleb_by 4 bytes → bytes ≡ bytes_from p → Gives (λ (x : ℤ). x) (reading_at p t) q r → Gives (λ (x : ℤ). x) (sleb_at p) q r
 unfolding sleb_at
 sleb_gives p q bytes t r e f h = rw (e, f) at h
 
 pub sleb_value : (p q : Place) (r : Result ℤ ReadFault) → Gives (λ (x : ℤ). x) (sleb_at p) q r
-    → IfOk r (λ x. x ≡ signed_sevens (between p q))
+    → IfOk r (λ x. x ≡ signed_sevens (bytes_between p q))
 unfolding sleb_at
-sleb_value p q r e = value_of signed_sevens p q (sleb_by 4 (ahead p)) r (sleb_read 4 (ahead p)) e
+sleb_value p q r e = value_of signed_sevens p q (sleb_by 4 (bytes_from p)) r (sleb_read 4 (bytes_from p)) e
 
 pub sleb_whole : (p q : Place) (r : Result ℤ ReadFault) → Gives (λ (x : ℤ). x) (sleb_at p) q r
-    → OnOk r (IsWhole ends_sleb 4 (between p q))
+    → OnOk r (IsWhole ends_sleb 4 (bytes_between p q))
 unfolding sleb_at
-sleb_whole p q r e = whole_of ends_sleb 4 p q (sleb_by 4 (ahead p)) r (sleb_stands 4 (ahead p)) e
+sleb_whole p q r e = whole_of ends_sleb 4 p q (sleb_by 4 (bytes_from p)) r (sleb_stands 4 (bytes_from p)) e
 
 pub sleb_moved : (p q : Place) (r : Result ℤ ReadFault) → Gives (λ (x : ℤ). x) (sleb_at p) q r
-    → OnOk r (q ≡ behind (length (between p q)) p)
+    → OnOk r (q ≡ place_behind (length (bytes_between p q)) p)
 unfolding sleb_at
-sleb_moved p q r e = moved_of ends_sleb 4 p q (sleb_by 4 (ahead p)) r (sleb_stands 4 (ahead p)) e
+sleb_moved p q r e = moved_of ends_sleb 4 p q (sleb_by 4 (bytes_from p)) r (sleb_stands 4 (bytes_from p)) e
 
 pub sleb_short : (p q : Place) (r : Result ℤ ReadFault) → Gives (λ (x : ℤ). x) (sleb_at p) q r
-    → (r ≡ Err Short) ↔ EndsInside 4 (ahead p)
+    → (r ≡ Err Short) ↔ EndsInside 4 (bytes_from p)
 unfolding sleb_at
 sleb_short p q r e =
-    let same = fault_of p q (sleb_by 4 (ahead p)) r Short e in
-    (λ h. rw (same.0 h) at (sleb_stands 4 (ahead p)), λ w. same.1 (sleb_short_by 4 (ahead p) w.go_on w.few))
+    let same = fault_of p q (sleb_by 4 (bytes_from p)) r Short e in
+    (λ h. rw (same.0 h) at (sleb_stands 4 (bytes_from p)), λ w. same.1 (sleb_short_by 4 (bytes_from p) w.go_on w.few))
 
 pub sleb_long : (p q : Place) (r : Result ℤ ReadFault) → Gives (λ (x : ℤ). x) (sleb_at p) q r
-    → (r ≡ Err LongLeb) ↔ IsTooLong ends_sleb 4 (ahead p)
+    → (r ≡ Err LongLeb) ↔ IsTooLong ends_sleb 4 (bytes_from p)
 unfolding sleb_at
 sleb_long p q r e =
-    let same = fault_of p q (sleb_by 4 (ahead p)) r LongLeb e in
-    (λ h. rw (same.0 h) at (sleb_stands 4 (ahead p)), λ w. same.1 (long_sleb_by (ahead p) w))
+    let same = fault_of p q (sleb_by 4 (bytes_from p)) r LongLeb e in
+    (λ h. rw (same.0 h) at (sleb_stands 4 (bytes_from p)), λ w. same.1 (long_sleb_by (bytes_from p) w))
 
-pub short_uleb : (p : Place) → EndsInside 4 (ahead p) → uleb_at p ≡ Err Short
+pub short_uleb : (p : Place) → EndsInside 4 (bytes_from p) → uleb_at p ≡ Err Short
 unfolding uleb_at
-short_uleb p w = rw (uleb_short_by 4 (ahead p) w.go_on w.few) refl
+short_uleb p w = rw (uleb_short_by 4 (bytes_from p) w.go_on w.few) refl
 
-pub long_uleb : (p : Place) → IsTooLong ends_uleb 4 (ahead p) → uleb_at p ≡ Err LongLeb
+pub long_uleb : (p : Place) → IsTooLong ends_uleb 4 (bytes_from p) → uleb_at p ≡ Err LongLeb
 unfolding uleb_at
-long_uleb p w = rw (long_uleb_by (ahead p) w) refl
+long_uleb p w = rw (long_uleb_by (bytes_from p) w) refl
 
-pub short_sleb : (p : Place) → EndsInside 4 (ahead p) → sleb_at p ≡ Err Short
+pub short_sleb : (p : Place) → EndsInside 4 (bytes_from p) → sleb_at p ≡ Err Short
 unfolding sleb_at
-short_sleb p w = rw (sleb_short_by 4 (ahead p) w.go_on w.few) refl
+short_sleb p w = rw (sleb_short_by 4 (bytes_from p) w.go_on w.few) refl
 
-pub long_sleb : (p : Place) → IsTooLong ends_sleb 4 (ahead p) → sleb_at p ≡ Err LongLeb
+pub long_sleb : (p : Place) → IsTooLong ends_sleb 4 (bytes_from p) → sleb_at p ≡ Err LongLeb
 unfolding sleb_at
-long_sleb p w = rw (long_sleb_by (ahead p) w) refl
+long_sleb p w = rw (long_sleb_by (bytes_from p) w) refl

@@ -1,8 +1,8 @@
 -- leb128 numbers: seven bits in each byte, the low ones first. Each byte but the last has its top bit set, and there are
 -- at most five.
 use Rattle.std.specs.Prelude.{◌≡◌, ◌<◌, ◌≤◌, ◌++◌, length, All, true, false, ℕ, zero, suc, ◌+◌, ◌*◌, ◌%◌, ◌||◌, ◌&&◌, nat_lt, nat_le, ℤ, pos, ◌+ℤ◌, ◌-ℤ◌, ◌*ℤ◌, List, [], ◌∷◌, Result, Ok, Err, Bool, if◌then◌else◌}
-use Rattle.pi_bytes.specs.Place.{Place, ahead}
-use Rattle.pi_bytes.specs.Reading.{◌>>=◌, placed}
+use Rattle.pi_bytes.specs.Place.{Place, bytes_from}
+use Rattle.pi_bytes.specs.Reading.{◌>>=◌, reading_at}
 use Rattle.pi_bytes.specs.declared.fault.ReadFault.{ReadFault}
 use Rattle.pi_bytes.specs.declared.fault.ReadFault.TheVariants.{Short, LongLeb}
 
@@ -74,8 +74,8 @@ pub record IsTooLong (ends : ℕ → Bool) (more : ℕ) (bytes : List ℕ) : Typ
 
 -- the unsigned number at a place
 unfoldable pub uleb_at : Place → Result (ℕ × Place) ReadFault
-uleb_at p = placed p (uleb_by 4 (ahead p))
+uleb_at p = reading_at p (uleb_by 4 (bytes_from p))
 
 -- the signed number at a place
 unfoldable pub sleb_at : Place → Result (ℤ × Place) ReadFault
-sleb_at p = placed p (sleb_by 4 (ahead p))
+sleb_at p = reading_at p (sleb_by 4 (bytes_from p))

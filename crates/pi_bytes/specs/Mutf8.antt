@@ -13,8 +13,8 @@ spelling u =
     else (224 + u / 4096) ∷ (128 + u / 64 % 64) ∷ (128 + u % 64) ∷ []
 
 -- the spelling of units, one behind the other
-abbrev pub spelled : List ℕ → List ℕ
-spelled units = flat_map spelling units
+abbrev pub spellings : List ℕ → List ℕ
+spellings units = flat_map spelling units
 
 -- a byte that goes on with a unit
 abbrev pub is_further : ℕ → Bool
@@ -65,16 +65,16 @@ after_unit at None more = Err at
 after_unit at (Some x) more = more x.0 x.1
 
 -- units before those that were read
-abbrev pub prefixed : List ℕ → Result (List ℕ × ℕ) ℕ → Result (List ℕ × ℕ) ℕ
-prefixed units (Ok x) = Ok (units ++ x.0, x.1)
-prefixed units (Err at) = Err at
+abbrev pub with_front : List ℕ → Result (List ℕ × ℕ) ℕ → Result (List ℕ × ℕ) ℕ
+with_front units (Ok x) = Ok (units ++ x.0, x.1)
+with_front units (Err at) = Err at
 
 -- That many units and a 0, where the bytes are those from a place on: the units and the place of the 0, or the first
 -- place at which no unit or not the 0 stands.
 abbrev pub units_from : ℕ → ℕ → List ℕ → Result (List ℕ × ℕ) ℕ
 units_from zero at bytes = if ends_text bytes then Ok ([], at) else Err at
 units_from (suc n) at bytes =
-    after_unit at (unit_at bytes) (λ u k. prefixed (u ∷ []) (units_from n (at + k) (drop k bytes)))
+    after_unit at (unit_at bytes) (λ u k. with_front (u ∷ []) (units_from n (at + k) (drop k bytes)))
 
 -- the text of that many units at the front of bytes
 unfoldable pub units_at : ℕ → List ℕ → Result (List ℕ × ℕ) ℕ
@@ -90,7 +90,7 @@ Answers read (Err OutOfMemory) = Unit {0}
 pub record Spells (units bytes : List ℕ) : Type 0 where
   pub are_units : All (λ u. u < 2 ^ 16) units
   pub rest : List ℕ
-  pub spelt : bytes ≡ spelled units ++ 0 ∷ rest
+  pub spelt : bytes ≡ spellings units ++ 0 ∷ rest
 
 -- Bytes begin with the spelling of units, up to that place and no more units than that. There no unit is spelled, or
 -- behind all of them stands no 0.
@@ -98,9 +98,9 @@ pub record Stops (count : ℕ) (bytes : List ℕ) (at : ℕ) : Type 0 where
   pub units : List ℕ
   pub are_units : All (λ u. u < 2 ^ 16) units
   pub few : length units ≤ count
-  pub before : at ≡ length (spelled units)
+  pub before : at ≡ length (spellings units)
   pub rest : List ℕ
-  pub spelt : bytes ≡ spelled units ++ rest
+  pub spelt : bytes ≡ spellings units ++ rest
   pub no_unit : length units < count → (u : ℕ) (behind : List ℕ) → u < 2 ^ 16 → rest ≢ spelling u ++ behind
   pub no_end : length units ≡ count → (behind : List ℕ) → rest ≢ 0 ∷ behind
 

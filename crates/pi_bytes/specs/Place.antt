@@ -7,13 +7,13 @@ pub record Place : Type 0 where
   pub at : ℕ
 
 -- the bytes from a place on
-abbrev pub ahead : Place → List ℕ
-ahead p = drop p.at p.bytes
+abbrev pub bytes_from : Place → List ℕ
+bytes_from p = drop p.at p.bytes
 
 -- the place that many bytes further
-abbrev pub behind : ℕ → Place → Place
-behind n p = record { bytes = p.bytes; at = p.at + n }
+abbrev pub place_behind : ℕ → Place → Place
+place_behind n p = record { bytes = p.bytes; at = p.at + n }
 
 -- the bytes from one place to a later one
-abbrev pub between : Place → Place → List ℕ
-between old new = take (new.at - old.at) (ahead old)
+abbrev pub bytes_between : Place → Place → List ℕ
+bytes_between old new = take (new.at - old.at) (bytes_from old)

@@ -1,7 +1,7 @@
 -- Readers: functions of a place that give what stands there and the place behind it, or say why nothing is read.
 use Rattle.std.specs.Prelude.{◌≡◌, ℕ, nat_le, List, length, take, Result, Ok, Err, if◌then◌else◌}
 use Rattle.byteorder.specs.Endian.{little_number}
-use Rattle.pi_bytes.specs.Place.{Place, ahead, behind}
+use Rattle.pi_bytes.specs.Place.{Place, bytes_from, place_behind}
 use Rattle.pi_bytes.specs.declared.fault.ReadFault.{ReadFault}
 use Rattle.pi_bytes.specs.declared.fault.ReadFault.TheVariants.{Short}
 
@@ -18,13 +18,13 @@ Gives view read new (Err fault) = read ≡ Err fault
 
 -- the next bytes, that many of them
 abbrev pub piece_at : ℕ → Place → Result (List ℕ × Place) ReadFault
-piece_at n p = if nat_le n (length (ahead p)) then Ok (take n (ahead p), behind n p) else Err Short
+piece_at n p = if nat_le n (length (bytes_from p)) then Ok (take n (bytes_from p), place_behind n p) else Err Short
 
 -- the number in the next bytes, that many of them, the lowest first
 abbrev pub number_at : ℕ → Place → Result (ℕ × Place) ReadFault
-number_at n p = if nat_le n (length (ahead p)) then Ok (little_number n (ahead p), behind n p) else Err Short
+number_at n p = if nat_le n (length (bytes_from p)) then Ok (little_number n (bytes_from p), place_behind n p) else Err Short
 
 -- what stands in the next bytes, with their number, as the reading at that place
-abbrev pub placed : {A : Type 0} → Place → Result (A × ℕ) ReadFault → Result (A × Place) ReadFault
-placed p (Ok x) = Ok (x.0, behind x.1 p)
-placed p (Err fault) = Err fault
+abbrev pub reading_at : {A : Type 0} → Place → Result (A × ℕ) ReadFault → Result (A × Place) ReadFault
+reading_at p (Ok x) = Ok (x.0, place_behind x.1 p)
+reading_at p (Err fault) = Err fault

@@ -3,8 +3,8 @@
 ghost use Rattle.std.specs.Prelude.{◌≡◌, ◌+◌, ◌<◌, ◌≤◌, ◌↔◌, length, take, slice_index, IsErr, IfErr, IfOk, OnOk, OnErr};
 ghost use Rattle.std.specs.Result.{ForOk};
 ghost use Rattle.byteorder.specs.Endian.{little_number};
-ghost use Rattle.pi_bytes.specs.Place.{ahead, behind, between};
-ghost use Rattle.pi_bytes.specs.Reading.{Gives, number_at, piece_at, placed};
+ghost use Rattle.pi_bytes.specs.Place.{bytes_from, place_behind, bytes_between};
+ghost use Rattle.pi_bytes.specs.Reading.{Gives, number_at, piece_at, reading_at};
 ghost use Rattle.pi_bytes.specs.Leb.{uleb_at, sleb_at, sevens, signed_sevens, ends_uleb, ends_sleb, IsWhole, EndsInside, IsTooLong};
 
 use crate::fault::ReadFault;
@@ -49,15 +49,15 @@ impl<'a> Cursor<'a> {
 
     /// The bytes from the place on.
     fn ahead(&self) -> &'a [u8]
-        ensures { result.now ≡ ahead self.now }
+        ensures { result.now ≡ bytes_from self.now }
     {
         self.bytes.split_at(self.at).1
     }
 
     /// Moves behind a value that was read at the place, with the number of its bytes.
     fn move_behind<T: Copy>(&mut self, read: Result<(T, usize), ReadFault>) -> Result<T, ReadFault>
-        requires { ForOk read (λ x. x.1 ≤ length (ahead self.old)) }
-        ensures exact { Gives (λ x. x) (placed self.old read) self.new result }
+        requires { ForOk read (λ x. x.1 ≤ length (bytes_from self.old)) }
+        ensures exact { Gives (λ x. x) (reading_at self.old read) self.new result }
         ensures stands { OnErr result (self.new ≡ self.old) }
         ensures within { self.new.at ≤ length self.new.bytes }
     {
@@ -70,8 +70,8 @@ impl<'a> Cursor<'a> {
     /// The next bytes, that many of them, lent from where they stand; Short where fewer are left.
     pub fn take(&mut self, n: usize) -> Result<&'a [u8], ReadFault>
         ensures exact { Gives (λ piece. piece.now) (piece_at n self.old) self.new result }
-        ensures piece { IfOk result (λ piece. piece.now ≡ take n (ahead self.old)) }
-        ensures moved { OnOk result (self.new ≡ behind n self.old) }
+        ensures piece { IfOk result (λ piece. piece.now ≡ take n (bytes_from self.old)) }
+        ensures moved { OnOk result (self.new ≡ place_behind n self.old) }
         ensures fault { IfErr result (λ fault. fault ≡ ReadFault.Short) }
         ensures short { IsErr result ↔ (length self.old.bytes < self.old.at + n) }
         ensures stands { OnErr result (self.new ≡ self.old) }
@@ -89,7 +89,7 @@ impl<'a> Cursor<'a> {
     pub fn u8(&mut self) -> Result<u8, ReadFault>
         ensures exact { Gives (λ x. x) (number_at 1 self.old) self.new result }
         ensures value { IfOk result (λ x. x ≡ slice_index self.old.bytes self.old.at) }
-        ensures moved { OnOk result (self.new ≡ behind 1 self.old) }
+        ensures moved { OnOk result (self.new ≡ place_behind 1 self.old) }
         ensures fault { IfErr result (λ fault. fault ≡ ReadFault.Short) }
         ensures short { IsErr result ↔ (length self.old.bytes < self.old.at + 1) }
         ensures stands { OnErr result (self.new ≡ self.old) }
@@ -106,8 +106,8 @@ impl<'a> Cursor<'a> {
     /// The number of 16 bits in the next two bytes, low byte first; Short where fewer are left.
     pub fn u16(&mut self) -> Result<u16, ReadFault>
         ensures exact { Gives (λ x. x) (number_at 2 self.old) self.new result }
-        ensures value { IfOk result (λ x. x ≡ little_number 2 (ahead self.old)) }
-        ensures moved { OnOk result (self.new ≡ behind 2 self.old) }
+        ensures value { IfOk result (λ x. x ≡ little_number 2 (bytes_from self.old)) }
+        ensures moved { OnOk result (self.new ≡ place_behind 2 self.old) }
         ensures fault { IfErr result (λ fault. fault ≡ ReadFault.Short) }
         ensures short { IsErr result ↔ (length self.old.bytes < self.old.at + 2) }
         ensures stands { OnErr result (self.new ≡ self.old) }
@@ -124,8 +124,8 @@ impl<'a> Cursor<'a> {
     /// The number of 32 bits in the next four bytes, low byte first; Short where fewer are left.
     pub fn u32(&mut self) -> Result<u32, ReadFault>
         ensures exact { Gives (λ x. x) (number_at 4 self.old) self.new result }
-        ensures value { IfOk result (λ x. x ≡ little_number 4 (ahead self.old)) }
-        ensures moved { OnOk result (self.new ≡ behind 4 self.old) }
+        ensures value { IfOk result (λ x. x ≡ little_number 4 (bytes_from self.old)) }
+        ensures moved { OnOk result (self.new ≡ place_behind 4 self.old) }
         ensures fault { IfErr result (λ fault. fault ≡ ReadFault.Short) }
         ensures short { IsErr result ↔ (length self.old.bytes < self.old.at + 4) }
         ensures stands { OnErr result (self.new ≡ self.old) }
@@ -145,11 +145,11 @@ impl<'a> Cursor<'a> {
     #[tactic(auto, unfolding(crate::specs::Leb::uleb_at))]
     pub fn uleb(&mut self) -> Result<u32, ReadFault>
         ensures exact { Gives (λ x. x) (uleb_at self.old) self.new result }
-        ensures value { IfOk result (λ x. x ≡ sevens (between self.old self.new)) }
-        ensures whole { OnOk result (IsWhole ends_uleb 4 (between self.old self.new)) }
-        ensures moved { OnOk result (self.new ≡ behind (length (between self.old self.new)) self.old) }
-        ensures short { (result ≡ Err ReadFault.Short) ↔ EndsInside 4 (ahead self.old) }
-        ensures long { (result ≡ Err ReadFault.LongLeb) ↔ IsTooLong ends_uleb 4 (ahead self.old) }
+        ensures value { IfOk result (λ x. x ≡ sevens (bytes_between self.old self.new)) }
+        ensures whole { OnOk result (IsWhole ends_uleb 4 (bytes_between self.old self.new)) }
+        ensures moved { OnOk result (self.new ≡ place_behind (length (bytes_between self.old self.new)) self.old) }
+        ensures short { (result ≡ Err ReadFault.Short) ↔ EndsInside 4 (bytes_from self.old) }
+        ensures long { (result ≡ Err ReadFault.LongLeb) ↔ IsTooLong ends_uleb 4 (bytes_from self.old) }
         ensures stands { OnErr result (self.new ≡ self.old) }
         ensures within { self.new.at ≤ length self.new.bytes }
     {
@@ -163,11 +163,11 @@ impl<'a> Cursor<'a> {
     #[tactic(auto, unfolding(crate::specs::Leb::sleb_at))]
     pub fn sleb(&mut self) -> Result<i32, ReadFault>
         ensures exact { Gives (λ x. x) (sleb_at self.old) self.new result }
-        ensures value { IfOk result (λ x. x ≡ signed_sevens (between self.old self.new)) }
-        ensures whole { OnOk result (IsWhole ends_sleb 4 (between self.old self.new)) }
-        ensures moved { OnOk result (self.new ≡ behind (length (between self.old self.new)) self.old) }
-        ensures short { (result ≡ Err ReadFault.Short) ↔ EndsInside 4 (ahead self.old) }
-        ensures long { (result ≡ Err ReadFault.LongLeb) ↔ IsTooLong ends_sleb 4 (ahead self.old) }
+        ensures value { IfOk result (λ x. x ≡ signed_sevens (bytes_between self.old self.new)) }
+        ensures whole { OnOk result (IsWhole ends_sleb 4 (bytes_between self.old self.new)) }
+        ensures moved { OnOk result (self.new ≡ place_behind (length (bytes_between self.old self.new)) self.old) }
+        ensures short { (result ≡ Err ReadFault.Short) ↔ EndsInside 4 (bytes_from self.old) }
+        ensures long { (result ≡ Err ReadFault.LongLeb) ↔ IsTooLong ends_sleb 4 (bytes_from self.old) }
         ensures stands { OnErr result (self.new ≡ self.old) }
         ensures within { self.new.at ≤ length self.new.bytes }
     {

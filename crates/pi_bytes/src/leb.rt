@@ -2,7 +2,7 @@
 
 ghost use Rattle.std.specs.Prelude.{◌≡◌, ◌+◌, ◌%◌, ◌<◌, ◌≤◌, ◌↔◌, ℕ, ℤ, List, [], ◌∷◌, ◌++◌, length, Ok, Err, IfOk};
 ghost use Rattle.pi_bytes.specs.Leb.{uleb_by, sleb_by, last_signed, uleb_at, sleb_at, sevens, signed_sevens, ends_uleb, ends_sleb, IsWhole, EndsInside, IsTooLong};
-ghost use Rattle.pi_bytes.specs.Place.{Place, ahead, behind, between};
+ghost use Rattle.pi_bytes.specs.Place.{Place, bytes_from, place_behind, bytes_between};
 
 use crate::fault::ReadFault;
 
@@ -97,21 +97,21 @@ pub(crate) fn sleb_of(bytes: &[u8]) -> Result<(i32, usize), ReadFault>
 /// The laws of uleb128 numbers at a place: what was read where one is, when each fault comes, and that a whole number is
 /// read, whatever follows.
 pub fn uleb_laws()
-    ensures value { (p q : Place) (x : ℕ) → uleb_at p ≡ Ok (x, q) → x ≡ sevens (between p q) }
-    ensures whole { (p q : Place) (x : ℕ) → uleb_at p ≡ Ok (x, q) → IsWhole ends_uleb 4 (between p q) }
-    ensures moved { (p q : Place) (x : ℕ) → uleb_at p ≡ Ok (x, q) → q ≡ behind (length (between p q)) p }
-    ensures short { (p : Place) → (uleb_at p ≡ Err ReadFault.Short) ↔ EndsInside 4 (ahead p) }
-    ensures long { (p : Place) → (uleb_at p ≡ Err ReadFault.LongLeb) ↔ IsTooLong ends_uleb 4 (ahead p) }
-    ensures again { (p : Place) (bytes rest : List ℕ) → IsWhole ends_uleb 4 bytes → ahead p ≡ bytes ++ rest → uleb_at p ≡ Ok (sevens bytes, behind (length bytes) p) }
+    ensures value { (p q : Place) (x : ℕ) → uleb_at p ≡ Ok (x, q) → x ≡ sevens (bytes_between p q) }
+    ensures whole { (p q : Place) (x : ℕ) → uleb_at p ≡ Ok (x, q) → IsWhole ends_uleb 4 (bytes_between p q) }
+    ensures moved { (p q : Place) (x : ℕ) → uleb_at p ≡ Ok (x, q) → q ≡ place_behind (length (bytes_between p q)) p }
+    ensures short { (p : Place) → (uleb_at p ≡ Err ReadFault.Short) ↔ EndsInside 4 (bytes_from p) }
+    ensures long { (p : Place) → (uleb_at p ≡ Err ReadFault.LongLeb) ↔ IsTooLong ends_uleb 4 (bytes_from p) }
+    ensures again { (p : Place) (bytes rest : List ℕ) → IsWhole ends_uleb 4 bytes → bytes_from p ≡ bytes ++ rest → uleb_at p ≡ Ok (sevens bytes, place_behind (length bytes) p) }
 {}
 
 /// The laws of sleb128 numbers at a place: what was read where one is, when each fault comes, and that a whole number is
 /// read, whatever follows.
 pub fn sleb_laws()
-    ensures value { (p q : Place) (x : ℤ) → sleb_at p ≡ Ok (x, q) → x ≡ signed_sevens (between p q) }
-    ensures whole { (p q : Place) (x : ℤ) → sleb_at p ≡ Ok (x, q) → IsWhole ends_sleb 4 (between p q) }
-    ensures moved { (p q : Place) (x : ℤ) → sleb_at p ≡ Ok (x, q) → q ≡ behind (length (between p q)) p }
-    ensures short { (p : Place) → (sleb_at p ≡ Err ReadFault.Short) ↔ EndsInside 4 (ahead p) }
-    ensures long { (p : Place) → (sleb_at p ≡ Err ReadFault.LongLeb) ↔ IsTooLong ends_sleb 4 (ahead p) }
-    ensures again { (p : Place) (bytes rest : List ℕ) → IsWhole ends_sleb 4 bytes → ahead p ≡ bytes ++ rest → sleb_at p ≡ Ok (signed_sevens bytes, behind (length bytes) p) }
+    ensures value { (p q : Place) (x : ℤ) → sleb_at p ≡ Ok (x, q) → x ≡ signed_sevens (bytes_between p q) }
+    ensures whole { (p q : Place) (x : ℤ) → sleb_at p ≡ Ok (x, q) → IsWhole ends_sleb 4 (bytes_between p q) }
+    ensures moved { (p q : Place) (x : ℤ) → sleb_at p ≡ Ok (x, q) → q ≡ place_behind (length (bytes_between p q)) p }
+    ensures short { (p : Place) → (sleb_at p ≡ Err ReadFault.Short) ↔ EndsInside 4 (bytes_from p) }
+    ensures long { (p : Place) → (sleb_at p ≡ Err ReadFault.LongLeb) ↔ IsTooLong ends_sleb 4 (bytes_from p) }
+    ensures again { (p : Place) (bytes rest : List ℕ) → IsWhole ends_sleb 4 bytes → bytes_from p ≡ bytes ++ rest → sleb_at p ≡ Ok (signed_sevens bytes, place_behind (length bytes) p) }
 {}

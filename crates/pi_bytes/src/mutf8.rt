@@ -1,7 +1,7 @@
 // Texts in MUTF-8, read and written. docs/dex-format.md states how a unit is spelled.
 
 ghost use Rattle.std.specs.Prelude.{◌≡◌, ◌^◌, ◌<◌, ◌≤◌, ℕ, List, All, Ok, Err, [], ◌∷◌, ◌++◌, length, IfSome, IfOk, OnOk, IfErr};
-ghost use Rattle.pi_bytes.specs.Mutf8.{spelling, spelled, is_further, two_of, three_of, unit_at, ends_text, units_at, Answers, Spells, Stops, IsBad};
+ghost use Rattle.pi_bytes.specs.Mutf8.{spelling, spellings, is_further, two_of, three_of, unit_at, ends_text, units_at, Answers, Spells, Stops, IsBad};
 
 use crate::fault::MutfError;
 use pi_model::listed::Units;
@@ -67,7 +67,7 @@ pub fn mutf8_units(alloc: Global, bytes: &[u8], count: u32) -> Result<(Units, us
     ensures exact { Answers (units_at count bytes.now) result }
     ensures counted { IfOk result (λ x. length x.0 ≡ count) }
     ensures spelled { IfOk result (λ x. Spells x.0 bytes.now) }
-    ensures before { IfOk result (λ x. x.1 ≡ length (spelled x.0)) }
+    ensures before { IfOk result (λ x. x.1 ≡ length (spellings x.0)) }
     ensures bad { IfErr result (IsBad count bytes.now) }
 {
     let mut units = Units::new(alloc);
@@ -105,7 +105,7 @@ fn push_unit(bytes: &mut Vec<u8>, unit: u16) -> Result<(), AllocError>
 
 /// The text of units as bytes: the spelling of each and the 0 behind them.
 pub fn mutf8_of(alloc: Global, units: &[u16]) -> Result<Vec<u8>, AllocError>
-    ensures { IfOk result (λ bytes. bytes.items ≡ spelled units.now ++ 0 ∷ []) }
+    ensures { IfOk result (λ bytes. bytes.items ≡ spellings units.now ++ 0 ∷ []) }
 {
     let mut bytes = Vec::new(alloc);
     for unit in units {
@@ -117,7 +117,7 @@ pub fn mutf8_of(alloc: Global, units: &[u16]) -> Result<Vec<u8>, AllocError>
 
 /// The law that units which are written are read again, whatever follows.
 pub fn written_is_read()
-    ensures { (units rest : List ℕ) → All (λ u. u < 2 ^ 16) units → units_at (length units) (spelled units ++ 0 ∷ rest) ≡ Ok (units, length (spelled units)) }
+    ensures { (units rest : List ℕ) → All (λ u. u < 2 ^ 16) units → units_at (length units) (spellings units ++ 0 ∷ rest) ≡ Ok (units, length (spellings units)) }
 {}
 
 /// The laws that the units which are read are as many as were asked for, that the bytes begin with their spelling and a
@@ -125,7 +125,7 @@ pub fn written_is_read()
 pub fn read_is_spelled()
     ensures counted { (count : ℕ) (bytes units : List ℕ) (at : ℕ) → units_at count bytes ≡ Ok (units, at) → length units ≡ count }
     ensures spelled { (count : ℕ) (bytes units : List ℕ) (at : ℕ) → units_at count bytes ≡ Ok (units, at) → Spells units bytes }
-    ensures before { (count : ℕ) (bytes units : List ℕ) (at : ℕ) → units_at count bytes ≡ Ok (units, at) → at ≡ length (spelled units) }
+    ensures before { (count : ℕ) (bytes units : List ℕ) (at : ℕ) → units_at count bytes ≡ Ok (units, at) → at ≡ length (spellings units) }
 {}
 
 /// The laws that reading stops where no unit is spelled or the 0 is not, and nowhere else.

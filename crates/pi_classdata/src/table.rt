@@ -3,7 +3,7 @@
 ghost use Rattle.std.specs.Prelude.{◌≡◌, ◌<◌, ◌++◌, ◌∷◌, [], ℕ, Some, IfOk, OnOk, is_some, length, slice_get};
 ghost use Rattle.pi_format.specs.Tables.{count_at, class_defs};
 ghost use Rattle.pi_format.specs.Rules.Header.{unless};
-ghost use Rattle.pi_format.specs.Rules.Lowest.{lower, listed};
+ghost use Rattle.pi_format.specs.Rules.Lowest.{lower, tabulation};
 ghost use Rattle.pi_format.specs.Rules.ClassData.{class_data_at, class_rows, rows_of, broken_class_data};
 
 use crate::read::class_rows;
@@ -39,7 +39,7 @@ impl RowTable {
     pub fn get(&self, i: u32) -> &ClassRows
         requires { i < length self.now }
         ensures value { slice_get self.now i ≡ Some result.now }
-        ensures listed { (f : ℕ → ClassRows) (n : ℕ) → self.now ≡ listed f 0 n → result.now ≡ f i }
+        ensures listed { (f : ℕ → ClassRows) (n : ℕ) → self.now ≡ tabulation f 0 n → result.now ≡ f i }
     {
         &self.classes[i as usize]
     }
@@ -72,7 +72,7 @@ fn judged(alloc: Global, raw: &Raw<'_>, i: u32) -> Result<(Option<u32>, ClassRow
 #[tactic(auto, using(pi_format::proofs::Loops::lowest_done, pi_format::proofs::Loops::listed_done))]
 pub fn read_rows(alloc: Global, raw: &Raw<'_>) -> Result<(Option<u32>, RowTable), AllocError>
     ensures broken { IfOk result (λ r. r.0 ≡ broken_class_data raw.now) }
-    ensures rows { IfOk result (λ r. r.1 ≡ listed (rows_of raw.now) 0 (count_at raw.now class_defs)) }
+    ensures rows { IfOk result (λ r. r.1 ≡ tabulation (rows_of raw.now) 0 (count_at raw.now class_defs)) }
 {
     let mut broken = None;
     let mut classes = Vec::new(alloc);

@@ -5,7 +5,7 @@ ghost use Rattle.std.specs.List.{All};
 ghost use Rattle.pi_bytes.specs.Reading.{number_at};
 ghost use Rattle.pi_format.specs.Tables.{count_at, class_defs, field_ids, type_ids};
 ghost use Rattle.pi_format.specs.Rules.Header.{unless};
-ghost use Rattle.pi_format.specs.Rules.Lowest.{listed};
+ghost use Rattle.pi_format.specs.Rules.Lowest.{tabulation};
 ghost use Rattle.pi_format.specs.Rules.Strings.{type_units};
 ghost use Rattle.pi_format.specs.Rules.Rows.{readable};
 ghost use Rattle.pi_format.specs.Rules.ClassData.{rows_of, class_values_at};
@@ -217,7 +217,7 @@ pub fn values_rule(
     raw: &Raw<'_>,
     table: &RowTable,
 ) -> Result<Option<u32>, AllocError>
-    requires { table.now ≡ listed (rows_of raw.now) 0 (count_at raw.now class_defs) }
+    requires { table.now ≡ tabulation (rows_of raw.now) 0 (count_at raw.now class_defs) }
     ensures { IfOk result (λ r. r ≡ broken_values raw.now) }
 {
     let mut broken = None;

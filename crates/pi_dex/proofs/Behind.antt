@@ -6,15 +6,15 @@ use Rattle.pi_model.specs.declared.describe.ClassDesc.{ClassDesc}
 use Rattle.pi_model.specs.Program.{Program, with_file}
 use Rattle.pi_model.specs.Valid.{FitsBehind}
 use Rattle.pi_format.specs.Rules.{broken_rule}
-use Rattle.pi_format.specs.Says.{named, with_said, HasRoom, SaysNext}
+use Rattle.pi_format.specs.Says.{named_file, with_said, HasRoom, SaysNext}
 use Rattle.pi_format.specs.Says.Classes.{types_said, classes_said}
 use Rattle.pi_format.specs.Says.Names.{Named, texts_of, new_names, name_numbers}
 
 -- the parts that are added are those that the file says
 pub record AreParts (p : Program) (file : List ℕ) (names : List (List ℕ)) (types : List NameNo) (classes : List ClassDesc) : Type 0 where
   pub names_are : names ≡ new_names p.names (texts_of file)
-  pub types_are : types ≡ types_said (named p file)
-  pub classes_are : classes ≡ classes_said (named p file) (length p.files)
+  pub types_are : types ≡ types_said (named_file p file)
+  pub classes_are : classes ≡ classes_said (named_file p file) (length p.files)
 
 pub are_parts : (p : Program) (file : List ℕ) (n : Named) (numbers : List NameNo) (k : ℕ) (names : List (List ℕ)) (types : List NameNo) (classes : List ClassDesc)
     → n ≡ record { file = file; numbers = numbers } → numbers ≡ name_numbers p.names file → k ≡ length p.files
@@ -22,14 +22,14 @@ pub are_parts : (p : Program) (file : List ℕ) (n : Named) (numbers : List Name
 are_parts p file n numbers k names types classes is by_names at new said defined = record {
   names_are = new;
   types_are = said ∙ ap types_said named_is;
-  classes_are = defined ∙ ap (λ (m : Named). classes_said m k) named_is ∙ ap (classes_said (named p file)) at;
+  classes_are = defined ∙ ap (λ (m : Named). classes_said m k) named_is ∙ ap (classes_said (named_file p file)) at;
 }
   where
-    named_is : n ≡ named p file
+    named_is : n ≡ named_file p file
     named_is = rw (is, by_names) refl
 
 pub parts_fit : (p : Program) (file : List ℕ) (names : List (List ℕ)) (types : List NameNo) (classes : List ClassDesc) → AreParts p file names types classes
-    → FitsBehind p (new_names p.names (texts_of file)) (types_said (named p file)) (classes_said (named p file) (length p.files)) → FitsBehind p names types classes
+    → FitsBehind p (new_names p.names (texts_of file)) (types_said (named_file p file)) (classes_said (named_file p file) (length p.files)) → FitsBehind p names types classes
 parts_fit p file names types classes are fits = rw (are.names_are, are.types_are, are.classes_are) fits
 
 pub parts_said : (p : Program) (file : List ℕ) (names : List (List ℕ)) (types : List NameNo) (classes : List ClassDesc) → AreParts p file names types classes

@@ -5,8 +5,8 @@ use Rattle.std.specs.Prelude.{◌==◌, ◌&&◌, ◌/◌, ◌%◌, nat_lt, nat_
 use Rattle.std.specs.List.{All}
 use Rattle.std.proofs.Math.Nat.{pow-succ'}
 use Rattle.byteorder.specs.Endian.{little_from, little_number}
-use Rattle.pi_bytes.specs.Place.{Place, ahead}
-use Rattle.pi_bytes.specs.Reading.{number_at, placed}
+use Rattle.pi_bytes.specs.Place.{Place, bytes_from}
+use Rattle.pi_bytes.specs.Reading.{number_at, reading_at}
 use Rattle.pi_bytes.specs.Leb.{uleb_at, uleb_by}
 use Rattle.pi_bytes.specs.declared.fault.ReadFault.{ReadFault}
 use Rattle.pi_bytes.specs.declared.fault.ReadFault.TheVariants as fault
@@ -43,13 +43,13 @@ readable_some (Err fault) x e = cc
 
 -- a number that was read has so many bytes, and the place behind it is in the same bytes
 number_read : (n : ℕ) (p : Place) (x : ℕ × Place) → AreBytes p.bytes → number_at n p ≡ Ok x → (x.0 < 256 ^ n) × (x.1.bytes ≡ p.bytes)
-number_read n p x are e = by_test (nat_le n (length (ahead p))) e
+number_read n p x are e = by_test (nat_le n (length (bytes_from p))) e
   where
-    by_test : (b : Bool) → (if b then Ok (little_number n (ahead p), record { bytes = p.bytes; at = p.at + n }) else Err fault.Short) ≡ Ok x
+    by_test : (b : Bool) → (if b then Ok (little_number n (bytes_from p), record { bytes = p.bytes; at = p.at + n }) else Err fault.Short) ≡ Ok x
         → (x.0 < 256 ^ n) × (x.1.bytes ≡ p.bytes)
     by_test true f =
-        let is : (little_number n (ahead p), record { bytes = p.bytes; at = p.at + n }) ≡ x = cc in
-        subst (λ (y : ℕ × Place). (y.0 < 256 ^ n) × (y.1.bytes ≡ p.bytes)) is (small_number (ahead p) (rest_are p.bytes are p.at) 0 n, refl)
+        let is : (little_number n (bytes_from p), record { bytes = p.bytes; at = p.at + n }) ≡ x = cc in
+        subst (λ (y : ℕ × Place). (y.0 < 256 ^ n) × (y.1.bytes ≡ p.bytes)) is (small_number (bytes_from p) (rest_are p.bytes are p.at) 0 n, refl)
     by_test false f = cc
 
 -- a value that was read has as many bytes as its kind and argument say, an argument of three bits, and the same bytes behind
@@ -142,9 +142,9 @@ values_set file (field ∷ fields) (suc n) p values are e =
 
 uleb_stays : (p : Place) (x : ℕ × Place) → uleb_at p ≡ Ok x → x.1.bytes ≡ p.bytes
 unfolding uleb_at
-uleb_stays p x e = by_read (uleb_by 4 (ahead p)) e
+uleb_stays p x e = by_read (uleb_by 4 (bytes_from p)) e
   where
-    by_read : (r : Result (ℕ × ℕ) ReadFault) → placed p r ≡ Ok x → x.1.bytes ≡ p.bytes
+    by_read : (r : Result (ℕ × ℕ) ReadFault) → reading_at p r ≡ Ok x → x.1.bytes ≡ p.bytes
     by_read (Ok y) f =
         let is : (y.0, record { bytes = p.bytes; at = p.at + y.1 }) ≡ x = cc in
         ap (λ (z : ℕ × Place). z.1.bytes) (sym is)

@@ -3,7 +3,7 @@
 ghost use Rattle.std.specs.Prelude.{◌≡◌, ◌<◌, ◌≤◌, length, None, OnOk, OnErr};
 ghost use Rattle.pi_format.specs.Tables.{count_at, class_defs};
 ghost use Rattle.pi_format.specs.Rules.{broken_content_rule, broken_rule};
-ghost use Rattle.pi_format.specs.Rules.Lowest.{listed};
+ghost use Rattle.pi_format.specs.Rules.Lowest.{tabulation};
 ghost use Rattle.pi_format.specs.Rules.ClassData.{broken_class_data, rows_of};
 ghost use Rattle.pi_format.specs.Says.{HasRoom, SaysNext};
 ghost use Rattle.pi_dexraw.specs.Asked.{Tells};
@@ -28,7 +28,7 @@ fn ask_content(
     table: &RowTable,
     broken: Option<u32>,
 ) -> Result<(), DexFault>
-    requires table { table.now ≡ listed (rows_of raw.now) 0 (count_at raw.now class_defs) }
+    requires table { table.now ≡ tabulation (rows_of raw.now) 0 (count_at raw.now class_defs) }
     requires broken { broken ≡ broken_class_data raw.now }
     ensures { Tells (broken_content_rule raw.now) result }
 {
@@ -46,7 +46,7 @@ fn add(alloc: Global, prog: &mut Prog, raw: &Raw<'_>, table: &RowTable) -> Resul
     requires files { length prog.old.files < 8 }
     requires room { HasRoom prog.old }
     requires kept { broken_content_rule raw.now ≡ None }
-    requires table { table.now ≡ listed (rows_of raw.now) 0 (count_at raw.now class_defs) }
+    requires table { table.now ≡ tabulation (rows_of raw.now) 0 (count_at raw.now class_defs) }
     ensures said { OnOk result (SaysNext prog.old raw.now prog.new) }
     ensures room { OnOk result (HasRoom prog.new) }
     ensures same { OnErr result (prog.new ≡ prog.old) }

@@ -3,7 +3,7 @@
 ghost use Rattle.std.specs.Prelude.{◌≡◌, ◌≢◌, ◌++◌, ◌<◌, ◌^◌, length, map, drop, IfOk, OnOk};
 ghost use Rattle.std.specs.List.{All};
 ghost use Rattle.pi_format.specs.Tables.{count_at, type_ids, class_defs, field_ids};
-ghost use Rattle.pi_format.specs.Rules.Lowest.{listed};
+ghost use Rattle.pi_format.specs.Rules.Lowest.{tabulation};
 ghost use Rattle.pi_format.specs.Rules.ClassData.{rows_of, methods_in};
 ghost use Rattle.pi_format.specs.Rules.Values.{class_values};
 ghost use Rattle.pi_format.specs.Says.Codes.{code_of};
@@ -221,7 +221,7 @@ pub(crate) fn classes(
     number: u8,
     table: &RowTable,
 ) -> Result<Classes, AllocError>
-    requires table { table.now ≡ listed (rows_of names.now.file) 0 (count_at names.now.file class_defs) }
+    requires table { table.now ≡ tabulation (rows_of names.now.file) 0 (count_at names.now.file class_defs) }
     requires says { SaysClasses names.now.file }
     ensures { IfOk result (λ classes. classes ≡ classes_said names.now number) }
 {

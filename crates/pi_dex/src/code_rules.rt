@@ -3,7 +3,7 @@
 ghost use Rattle.std.specs.Prelude.{◌≡◌, IfOk};
 ghost use Rattle.std.specs.List.{All};
 ghost use Rattle.pi_format.specs.Tables.{count_at, class_defs};
-ghost use Rattle.pi_format.specs.Rules.Lowest.{lowest_of, listed};
+ghost use Rattle.pi_format.specs.Rules.Lowest.{lowest_of, tabulation};
 ghost use Rattle.pi_format.specs.Rules.ClassData.{rows_of, methods_in};
 ghost use Rattle.pi_format.specs.Rules.CodeItems.{broken_code};
 ghost use Rattle.pi_dex.specs.Judged.{IsMethod, code_place};
@@ -67,7 +67,7 @@ pub(crate) fn code_rule(
     raw: &Raw<'_>,
     table: &RowTable,
 ) -> Result<Option<u32>, AllocError>
-    requires { table.now ≡ listed (rows_of raw.now) 0 (count_at raw.now class_defs) }
+    requires { table.now ≡ tabulation (rows_of raw.now) 0 (count_at raw.now class_defs) }
     ensures { IfOk result (λ r. r ≡ broken_code raw.now) }
 {
     let mut lowest = None;

@@ -3,7 +3,7 @@
 ghost use Rattle.std.specs.Prelude.{◌≡◌, None, true, IfOk};
 ghost use Rattle.std.specs.List.{All};
 ghost use Rattle.pi_format.specs.Tables.{count_at, class_defs};
-ghost use Rattle.pi_format.specs.Rules.Lowest.{listed};
+ghost use Rattle.pi_format.specs.Rules.Lowest.{tabulation};
 ghost use Rattle.pi_format.specs.Rules.ClassData.{rows_of, methods_in};
 ghost use Rattle.pi_format.specs.Rules.CodeItems.{code_lies, broken_code};
 ghost use Rattle.pi_format.specs.Rules.Pieces.{broken_walk, broken_index, broken_payload};
@@ -108,7 +108,7 @@ pub(crate) fn walk_rules(
     raw: &Raw<'_>,
     table: &RowTable,
 ) -> Result<Faults, AllocError>
-    requires table { table.now ≡ listed (rows_of raw.now) 0 (count_at raw.now class_defs) }
+    requires table { table.now ≡ tabulation (rows_of raw.now) 0 (count_at raw.now class_defs) }
     requires code { broken_code raw.now ≡ None }
     ensures walk { IfOk result (λ f. f.walk ≡ broken_walk raw.now) }
     ensures index { IfOk result (λ f. f.index ≡ broken_index raw.now) }

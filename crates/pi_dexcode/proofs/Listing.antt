@@ -2,29 +2,29 @@
 use Rattle.std.proofs.Common.{◌≡◌, ℕ, zero, suc, ◌+◌, ◌-◌, ◌<◌, ◌≤◌, List, [], ◌∷◌, ◌++◌, length, drop, get_or, flat_map, refl, sym, arith, append_assoc}
 use Rattle.std.proofs.Math.ListN.{drop_of_length-le}
 use Rattle.std.proofs.lemmas.List.{drop_more, append-nil}
-use Rattle.pi_format.specs.Rules.Lowest.{listed}
+use Rattle.pi_format.specs.Rules.Lowest.{tabulation}
 
 -- one more of n, behind i of them
 pub listed_go : {A : Type 0} (f : ℕ → A) (done : List A) (from i n : ℕ) → i < n
-    → (done ++ f (from + i) ∷ []) ++ listed f (from + (i + 1)) (n - (i + 1)) ≡ done ++ listed f (from + i) (n - i)
+    → (done ++ f (from + i) ∷ []) ++ tabulation f (from + (i + 1)) (n - (i + 1)) ≡ done ++ tabulation f (from + i) (n - i)
 listed_go f done from i n lt =
     let more : n - i ≡ suc (n - (i + 1)) = omega arith in
     let place : from + i + 1 ≡ from + (i + 1) = omega arith in
-    rw (more, place) (append_assoc done (f (from + i) ∷ []) (listed f (from + (i + 1)) (n - (i + 1))))
+    rw (more, place) (append_assoc done (f (from + i) ∷ []) (tabulation f (from + (i + 1)) (n - (i + 1))))
 
 -- what functions of numbers give one behind the other, one more of n
 pub flat_go : {A : Type 0} (f : ℕ → List A) (done : List A) (i n : ℕ) → i < n
-    → (done ++ f i) ++ flat_map f (listed (λ k. k) (i + 1) (n - (i + 1))) ≡ done ++ flat_map f (listed (λ k. k) i (n - i))
+    → (done ++ f i) ++ flat_map f (tabulation (λ k. k) (i + 1) (n - (i + 1))) ≡ done ++ flat_map f (tabulation (λ k. k) i (n - i))
 flat_go f done i n lt =
     let more : n - i ≡ suc (n - (i + 1)) = omega arith in
-    rw more (append_assoc done (f i) (flat_map f (listed (λ k. k) (i + 1) (n - (i + 1)))))
+    rw more (append_assoc done (f i) (flat_map f (tabulation (λ k. k) (i + 1) (n - (i + 1)))))
 
-pub flat_end : {A : Type 0} (f : ℕ → List A) (done : List A) (i n : ℕ) → n ≤ i → done ++ flat_map f (listed (λ k. k) i (n - i)) ≡ done
+pub flat_end : {A : Type 0} (f : ℕ → List A) (done : List A) (i n : ℕ) → n ≤ i → done ++ flat_map f (tabulation (λ k. k) i (n - i)) ≡ done
 flat_end f done i n le =
     let none : n - i ≡ zero = omega arith in
     rw none (append-nil done)
 
-pub flat_begin : {A : Type 0} (f : ℕ → List A) (n : ℕ) → [] ++ flat_map f (listed (λ k. k) 0 (n - 0)) ≡ flat_map f (listed (λ k. k) 0 n)
+pub flat_begin : {A : Type 0} (f : ℕ → List A) (n : ℕ) → [] ++ flat_map f (tabulation (λ k. k) 0 (n - 0)) ≡ flat_map f (tabulation (λ k. k) 0 n)
 flat_begin f n =
     let all : n - 0 ≡ n = omega arith in
     rw all refl

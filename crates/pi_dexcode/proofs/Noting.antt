@@ -6,7 +6,7 @@ use Rattle.std.proofs.lemmas.Bool.Decides.{nat_tests}
 use Rattle.pi_model.specs.declared.numbers.NameNo.{NameNo}
 use Rattle.pi_model.specs.Texts.{same_text}
 use Rattle.pi_format.specs.Core.{name_no}
-use Rattle.pi_format.specs.Rules.Lowest.{listed}
+use Rattle.pi_format.specs.Rules.Lowest.{tabulation}
 use Rattle.pi_format.specs.Says.Names.{new_names, numbers_from}
 use Rattle.pi_dexcode.specs.Noting.{noted_names, noted_numbers}
 
@@ -72,19 +72,19 @@ numbers_note names new numbers text texts = by_place (position (same_text text) 
         rw (sym e, next) (append_assoc numbers (name_no (length names + length new) ∷ []) (numbers_from names (length names + length new + 1) texts))
 
 -- the numbers from one on
-listed_more : {A : Type 0} (f : ℕ → A) (i n : ℕ) → i < n → listed f i (n - i) ≡ f i ∷ listed f (i + 1) (n - (i + 1))
+listed_more : {A : Type 0} (f : ℕ → A) (i n : ℕ) → i < n → tabulation f i (n - i) ≡ f i ∷ tabulation f (i + 1) (n - (i + 1))
 listed_more f i n lt =
     let more : n - i ≡ suc (n - (i + 1)) = omega arith in
     rw more refl
 
 pub names_go : (names new : List (List ℕ)) (f : ℕ → List ℕ) (i n : ℕ) → i < n
-    → noted_names names new (f i) ++ new_names names (listed f (i + 1) (n - (i + 1))) ≡ new ++ new_names names (listed f i (n - i))
+    → noted_names names new (f i) ++ new_names names (tabulation f (i + 1) (n - (i + 1))) ≡ new ++ new_names names (tabulation f i (n - i))
 names_go names new f i n lt =
-    names_note names new (f i) (listed f (i + 1) (n - (i + 1))) ∙ ap (λ texts. new ++ new_names names texts) (sym (listed_more f i n lt))
+    names_note names new (f i) (tabulation f (i + 1) (n - (i + 1))) ∙ ap (λ texts. new ++ new_names names texts) (sym (listed_more f i n lt))
 
 pub numbers_go : (names new : List (List ℕ)) (numbers : List NameNo) (f : ℕ → List ℕ) (i n : ℕ) → i < n
-    → noted_numbers names new numbers (f i) ++ numbers_from names (length names + length (noted_names names new (f i))) (listed f (i + 1) (n - (i + 1)))
-    ≡ numbers ++ numbers_from names (length names + length new) (listed f i (n - i))
+    → noted_numbers names new numbers (f i) ++ numbers_from names (length names + length (noted_names names new (f i))) (tabulation f (i + 1) (n - (i + 1)))
+    ≡ numbers ++ numbers_from names (length names + length new) (tabulation f i (n - i))
 numbers_go names new numbers f i n lt =
-    numbers_note names new numbers (f i) (listed f (i + 1) (n - (i + 1)))
+    numbers_note names new numbers (f i) (tabulation f (i + 1) (n - (i + 1)))
     ∙ ap (λ texts. numbers ++ numbers_from names (length names + length new) texts) (sym (listed_more f i n lt))

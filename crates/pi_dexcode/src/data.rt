@@ -2,7 +2,7 @@
 
 ghost use Rattle.std.specs.Prelude.{◌≡◌, ◌+◌, ◌*◌, ◌/◌, ◌%◌, ◌<◌, ◌≤◌, length, Some, IfOk};
 ghost use Rattle.pi_insn.specs.Lent.{data_of};
-ghost use Rattle.pi_format.specs.Rules.Lowest.{listed};
+ghost use Rattle.pi_format.specs.Rules.Lowest.{tabulation};
 ghost use Rattle.pi_format.specs.Says.Insns.{case_target, item_of, cases_of, width_of, items_of};
 ghost use Rattle.pi_dexcode.specs.Whole.{IsWhole, IsItems, packed_case, sparse_case};
 
@@ -47,7 +47,7 @@ fn sparse_case(at: u32, keys: &[u16], targets: &[u16], k: usize) -> Case
 /// The cases of a packed switch, whose keys count from the first one up.
 fn packed_cases(alloc: Global, at: u32, first: i32, targets: &[u16]) -> Result<Cases, AllocError>
     requires { length targets.now ≤ 16777216 }
-    ensures { IfOk result (λ cases. cases ≡ listed (packed_case at first targets.now) 0 (length targets.now / 2)) }
+    ensures { IfOk result (λ cases. cases ≡ tabulation (packed_case at first targets.now) 0 (length targets.now / 2)) }
 {
     let mut cases = Vec::new(alloc);
     for k in 0..targets.len() / 2 {
@@ -59,7 +59,7 @@ fn packed_cases(alloc: Global, at: u32, first: i32, targets: &[u16]) -> Result<C
 /// The cases of a sparse switch, each with its key.
 fn sparse_cases(alloc: Global, at: u32, keys: &[u16], targets: &[u16]) -> Result<Cases, AllocError>
     requires { length keys.now ≡ length targets.now }
-    ensures { IfOk result (λ cases. cases ≡ listed (sparse_case at keys.now targets.now) 0 (length targets.now / 2)) }
+    ensures { IfOk result (λ cases. cases ≡ tabulation (sparse_case at keys.now targets.now) 0 (length targets.now / 2)) }
 {
     let mut cases = Vec::new(alloc);
     for k in 0..targets.len() / 2 {
@@ -105,7 +105,7 @@ fn item(width: u16, units: &[u16], k: usize) -> u64
 /// So many items.
 fn all_items(alloc: Global, width: u16, size: u32, units: &[u16]) -> Result<Items, AllocError>
     requires { IsItems width size units.now }
-    ensures { IfOk result (λ items. items ≡ listed (item_of width units.now) 0 size) }
+    ensures { IfOk result (λ items. items ≡ tabulation (item_of width units.now) 0 size) }
 {
     let mut items = Vec::new(alloc);
     for k in 0..size as usize {

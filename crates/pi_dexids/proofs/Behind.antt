@@ -4,7 +4,7 @@ use Rattle.std.specs.Prelude.{◌==◌, nat_lt, is_some, slice_get, slice_set, i
 use Rattle.std.proofs.Math.ListN.{drop_of_length-le}
 use Rattle.std.proofs.lemmas.List.{drop-drop}
 use Rattle.std.proofs.lemmas.Bool.Decides.{nat_tests}
-use Rattle.pi_bytes.specs.Mutf8.{spelling, unit_at, ends_text, prefixed, after_unit, units_from, units_at}
+use Rattle.pi_bytes.specs.Mutf8.{spelling, unit_at, ends_text, with_front, after_unit, units_from, units_at}
 use Rattle.pi_bytes.proofs.Laws.{unit_is, units_counted}
 use Rattle.pi_format.specs.Rules.Strings.{FileText, with_units, read_text, units_in}
 use Rattle.pi_dexids.specs.Texts.{head_at}
@@ -183,7 +183,7 @@ ends_ok at bytes x true e q =
     (refl, ap (λ (y : List ℕ × ℕ). y.0) is)
 ends_ok at bytes x false e q = cc
 
-prefixed_ok : (u : ℕ) (r : Result (List ℕ × ℕ) ℕ) (x : List ℕ × ℕ) → prefixed (u ∷ []) r ≡ Ok x → (y : List ℕ × ℕ) × (r ≡ Ok y) × (u ∷ y.0 ≡ x.0)
+prefixed_ok : (u : ℕ) (r : Result (List ℕ × ℕ) ℕ) (x : List ℕ × ℕ) → with_front (u ∷ []) r ≡ Ok x → (y : List ℕ × ℕ) × (r ≡ Ok y) × (u ∷ y.0 ≡ x.0)
 prefixed_ok u (Ok y) x e =
     let is : (u ∷ y.0, y.1) ≡ x = cc in
     (y, refl, ap (λ (z : List ℕ × ℕ). z.0) is)
@@ -202,7 +202,7 @@ from_unit bytes x some =
     rw (text_steps bytes, no, some) refl
 
 reads_unit : (n at : ℕ) (bytes : List ℕ) (x : List ℕ × ℕ) (o : Option (ℕ × ℕ)) → unit_at bytes ≡ o
-    → after_unit at o (λ u k. prefixed (u ∷ []) (units_from n (at + k) (drop k bytes))) ≡ Ok x
+    → after_unit at o (λ u k. with_front (u ∷ []) (units_from n (at + k) (drop k bytes))) ≡ Ok x
     → ((k : ℕ) (y : List ℕ × ℕ) → units_from n (at + k) (drop k bytes) ≡ Ok y → text_from (drop k bytes) ≡ Some y.0) → text_from bytes ≡ Some x.0
 reads_unit n at bytes x None q e h = cc
 reads_unit n at bytes x (Some y) q e h =
@@ -224,7 +224,7 @@ read_more : (at : ℕ) (bytes us : List ℕ) (x : ℕ × ℕ) → unit_at bytes 
     → IsRead (x.0 ∷ us) (units_from (suc (length us)) at bytes)
 read_more at bytes us x e read = record {
   place = read.place;
-  is = rw e (ap (prefixed (x.0 ∷ [])) read.is);
+  is = rw e (ap (with_front (x.0 ∷ [])) read.is);
 }
 
 read_rest : (at : ℕ) (bytes us : List ℕ) (x : ℕ × ℕ) → unit_at bytes ≡ Some x → (o : Option (List ℕ)) → option_map (λ vs. x.0 ∷ vs) o ≡ Some us

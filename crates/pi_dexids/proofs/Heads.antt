@@ -10,14 +10,14 @@ use Rattle.std.proofs.Math.ListN.{drop_of_length-le}
 use Rattle.std.proofs.lemmas.Bool.Decides.{nat_tests}
 use Rattle.pi_bytes.specs.declared.fault.ReadFault.{ReadFault}
 use Rattle.pi_bytes.specs.Place.{Place}
-use Rattle.pi_bytes.specs.Reading.{placed}
+use Rattle.pi_bytes.specs.Reading.{reading_at}
 use Rattle.pi_bytes.specs.Leb.{uleb_by}
 use Rattle.pi_bytes.specs.Mutf8.{units_at}
 use Rattle.pi_format.specs.Rules.Strings.{FileText, with_units, with_count, read_text, string_text, string_units, units_in}
 use Rattle.pi_dexids.specs.Texts.{behind_count, head_at}
 
 head_by : (file : List ℕ) (at count : ℕ) (new : Place) (r : Result (ℕ × ℕ) ReadFault)
-    → placed (record { bytes = file; at = at }) r ≡ Ok (count, new) → behind_count at r ≡ Some (count, new.at)
+    → reading_at (record { bytes = file; at = at }) r ≡ Ok (count, new) → behind_count at r ≡ Some (count, new.at)
 head_by file at count new (Ok x) e = ap f e
   where
     f : Result (ℕ × Place) ReadFault → Option (ℕ × ℕ)
@@ -26,17 +26,17 @@ head_by file at count new (Ok x) e = ap f e
 head_by file at count new (Err fault) e = cc
 
 -- what a cursor read is the head of the text
-pub head_is : (file : List ℕ) (at count : ℕ) (new : Place) → placed (record { bytes = file; at = at }) (uleb_by 4 (drop at file)) ≡ Ok (count, new)
+pub head_is : (file : List ℕ) (at count : ℕ) (new : Place) → reading_at (record { bytes = file; at = at }) (uleb_by 4 (drop at file)) ≡ Ok (count, new)
     → head_at file at ≡ Some (count, new.at)
 unfolding head_at
 head_is file at count new e = head_by file at count new (uleb_by 4 (drop at file)) e
 
 not_by : (file : List ℕ) (at : ℕ) (fault : ReadFault) (r : Result (ℕ × ℕ) ReadFault)
-    → placed (record { bytes = file; at = at }) r ≡ Err fault → behind_count at r ≡ None
+    → reading_at (record { bytes = file; at = at }) r ≡ Err fault → behind_count at r ≡ None
 not_by file at fault (Ok x) e = cc
 not_by file at fault (Err f) e = refl
 
-pub no_head : (file : List ℕ) (at : ℕ) (fault : ReadFault) → placed (record { bytes = file; at = at }) (uleb_by 4 (drop at file)) ≡ Err fault
+pub no_head : (file : List ℕ) (at : ℕ) (fault : ReadFault) → reading_at (record { bytes = file; at = at }) (uleb_by 4 (drop at file)) ≡ Err fault
     → head_at file at ≡ None
 unfolding head_at
 no_head file at fault e = not_by file at fault (uleb_by 4 (drop at file)) e

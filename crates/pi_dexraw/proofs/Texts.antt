@@ -5,7 +5,7 @@ use Rattle.std.specs.List.{list_all}
 use Rattle.std.specs.Cmp.Lexicographic.{pointwise}
 use Rattle.std.proofs.lemmas.Bool.Decides.{nat_tests}
 use Rattle.pi_model.specs.Texts.{same_text}
-use Rattle.pi_bytes.specs.Mutf8.{spelling, spelled}
+use Rattle.pi_bytes.specs.Mutf8.{spelling, spellings}
 use Rattle.pi_format.specs.Tables.{count_at, string_ids}
 use Rattle.pi_format.specs.Rules.{broken_tables_rule}
 use Rattle.pi_format.specs.Rules.Strings.{string_units, string_bytes}
@@ -19,16 +19,16 @@ one_letter : (c u : ℕ) (cs rest us : List ℕ) → is_ascii c ≡ true → poi
     → pointwise nat_eq (c ∷ cs) (spelling u ++ rest) ≡ pointwise nat_eq (c ∷ cs) (u ∷ us)
 one_letter c u cs rest us ascii e = grind (arith, nat_tests)
 
-pub same_spelled : (cs us : List ℕ) → list_all is_ascii cs ≡ true → pointwise nat_eq cs (spelled us) ≡ pointwise nat_eq cs us
+pub same_spelled : (cs us : List ℕ) → list_all is_ascii cs ≡ true → pointwise nat_eq cs (spellings us) ≡ pointwise nat_eq cs us
 same_spelled [] [] e = refl
 same_spelled [] (u ∷ us) e = grind (arith, nat_tests)
 same_spelled (c ∷ cs) [] e = refl
 same_spelled (c ∷ cs) (u ∷ us) e =
     let head = both (is_ascii c) (list_all is_ascii cs) e in
-    one_letter c u cs (spelled us) us head.0 (same_spelled cs us head.1)
+    one_letter c u cs (spellings us) us head.0 (same_spelled cs us head.1)
 
 -- a string that has a text, by its bytes
-spelled_so : (file : List ℕ) (s : ℕ) → broken_tables_rule file ≡ None → s < count_at file string_ids → string_bytes file s ≡ spelled (string_units file s)
+spelled_so : (file : List ℕ) (s : ℕ) → broken_tables_rule file ≡ None → s < count_at file string_ids → string_bytes file s ≡ spellings (string_units file s)
 spelled_so file s kept lt = bytes_spell file s (string_there file s (tables_hold file kept).strings lt)
 
 -- an ASCII text is the bytes of a string exactly where it is its units

@@ -5,7 +5,7 @@ use Rattle.std.specs.List.{position_or_len}
 use Rattle.std.proofs.Math.ListN.{drop_of_length-le}
 use Rattle.std.proofs.lemmas.List.{drop_more}
 use Rattle.std.proofs.lemmas.Bool.Decides.{nat_tests}
-use Rattle.pi_bytes.specs.Mutf8.{spelling, spelled, units_at}
+use Rattle.pi_bytes.specs.Mutf8.{spelling, spellings, units_at}
 use Rattle.pi_bytes.specs.Numbers.{word_at}
 use Rattle.pi_format.specs.Tables.{count_at, string_ids}
 use Rattle.pi_format.specs.Rules.Entries.{entry_at}
@@ -18,13 +18,13 @@ use Rattle.pi_bytes.proofs.Laws.{units_spelled, units_before}
 no_zero_in_one : (u : ℕ) (rest : List ℕ) → position_or_len (λ b. b == 0) (spelling u ++ rest) ≡ length (spelling u) + position_or_len (λ b. b == 0) rest
 no_zero_in_one u rest = grind (arith, nat_tests)
 
-first_zero : (us rest : List ℕ) → position_or_len (λ b. b == 0) (spelled us ++ 0 ∷ rest) ≡ length (spelled us)
+first_zero : (us rest : List ℕ) → position_or_len (λ b. b == 0) (spellings us ++ 0 ∷ rest) ≡ length (spellings us)
 first_zero [] rest = refl
 first_zero (u ∷ us) rest =
     let more = first_zero us rest in
-    let len = length-append (spelling u) (spelled us) in
-    let one = no_zero_in_one u (spelled us ++ 0 ∷ rest) in
-    let place = ap (position_or_len (λ b. b == 0)) (append_assoc (spelling u) (spelled us) (0 ∷ rest)) in
+    let len = length-append (spelling u) (spellings us) in
+    let one = no_zero_in_one u (spellings us ++ 0 ∷ rest) in
+    let place = ap (position_or_len (λ b. b == 0)) (append_assoc (spelling u) (spellings us) (0 ∷ rest)) in
     omega (arith, more, len, one, place)
 
 pub zero_behind : (count : ℕ) (bytes units : List ℕ) (at : ℕ) → units_at count bytes ≡ Ok (units, at) → position_or_len (λ b. b == 0) bytes ≡ at

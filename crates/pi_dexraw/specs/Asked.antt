@@ -1,6 +1,6 @@
 -- What an answer says where rules are asked one after the other.
 use Rattle.std.specs.Prelude.{◌≡◌, List, ℕ, Option, Some, None, Result, Ok, Err}
-use Rattle.pi_format.specs.Rules.{Broken, asked}
+use Rattle.pi_format.specs.Rules.{Broken, broken_or}
 use Rattle.pi_format.specs.Rules.Header.{broken_length, broken_magic, broken_order, broken_header_size, broken_file_size, broken_checksum, broken_signature, broken_tables, broken_data}
 use Rattle.pi_format.specs.Rules.Map.{broken_map}
 use Rattle.pi_format.specs.Rules.Strings.{broken_strings, broken_string_order, broken_types}
@@ -25,19 +25,19 @@ Tells broken (Err OutOfMemory) = Unit {0}
 -- rules X1 to X5, X6 to X9, X10 to X13, X14 and X15, X16 and X17 before what comes later
 unfoldable pub header_rules : List ℕ → Option Broken → Option Broken
 header_rules file later =
-    asked 1 (broken_length file) (asked 2 (broken_magic file) (asked 3 (broken_order file) (asked 4 (broken_header_size file)
-    (asked 5 (broken_file_size file) later))))
+    broken_or 1 (broken_length file) (broken_or 2 (broken_magic file) (broken_or 3 (broken_order file) (broken_or 4 (broken_header_size file)
+    (broken_or 5 (broken_file_size file) later))))
 
 unfoldable pub sum_rules : List ℕ → Option Broken → Option Broken
 sum_rules file later =
-    asked 6 (broken_checksum file) (asked 7 (broken_signature file) (asked 8 (broken_tables file) (asked 9 (broken_data file) later)))
+    broken_or 6 (broken_checksum file) (broken_or 7 (broken_signature file) (broken_or 8 (broken_tables file) (broken_or 9 (broken_data file) later)))
 
 unfoldable pub string_rules : List ℕ → Option Broken → Option Broken
 string_rules file later =
-    asked 10 (broken_map file) (asked 11 (broken_strings file) (asked 12 (broken_string_order file) (asked 13 (broken_types file) later)))
+    broken_or 10 (broken_map file) (broken_or 11 (broken_strings file) (broken_or 12 (broken_string_order file) (broken_or 13 (broken_types file) later)))
 
 unfoldable pub id_rules : List ℕ → Option Broken → Option Broken
-id_rules file later = asked 14 (broken_protos file) (asked 15 (broken_fields file) later)
+id_rules file later = broken_or 14 (broken_protos file) (broken_or 15 (broken_fields file) later)
 
 unfoldable pub class_rules : List ℕ → Option Broken → Option Broken
-class_rules file later = asked 16 (broken_methods file) (asked 17 (broken_classes file) later)
+class_rules file later = broken_or 16 (broken_methods file) (broken_or 17 (broken_classes file) later)

@@ -1,7 +1,7 @@
 // The rules X1 to X17 one after the other. docs/dex-format.md states the order.
 
 ghost use Rattle.std.specs.Prelude.{◌≡◌, ◌≤◌, None, length, IfOk, OnOk};
-ghost use Rattle.pi_format.specs.Rules.{asked, broken_tables_rule};
+ghost use Rattle.pi_format.specs.Rules.{broken_or, broken_tables_rule};
 ghost use Rattle.pi_format.specs.Rules.Strings.{broken_types};
 ghost use Rattle.pi_dexids.specs.Tables.{HasTables};
 ghost use Rattle.pi_dexids.specs.Tails.{AreTails};
@@ -24,7 +24,7 @@ use std::alloc::Global;
 
 /// Tells a rule that is broken.
 fn ask(rule: u8, broken: Option<u32>) -> Result<(), DexFault>
-    ensures asks { Asks (asked rule broken) result }
+    ensures asks { Asks (broken_or rule broken) result }
     ensures holds { OnOk result (broken ≡ None) }
 {
     match broken {

@@ -22,11 +22,11 @@ use Rattle.pi_model.proofs.Kept.{kept_at_first, kept_behind}
 use Rattle.pi_bytes.specs.Numbers.{half_at}
 use Rattle.pi_format.specs.Core.{core_names, core_types, core_classes, core_program, object_class, out_class, object_name, out_name, int_name, void_name, strings_name, main_name, clinit_name}
 use Rattle.pi_format.specs.Tables.{count_at, class_defs}
-use Rattle.pi_format.specs.Rules.Lowest.{listed}
+use Rattle.pi_format.specs.Rules.Lowest.{tabulation}
 use Rattle.pi_format.specs.Rules.Rows.{MemberRow}
 use Rattle.pi_format.specs.Rules.ClassData.{rows_of, methods_in}
 use Rattle.pi_format.specs.Rules.{broken_rule}
-use Rattle.pi_format.specs.Says.{HasRoom, SaysNext, named, with_said}
+use Rattle.pi_format.specs.Says.{HasRoom, SaysNext, named_file, with_said}
 use Rattle.pi_format.specs.Says.Names.{Named, new_names, texts_of}
 use Rattle.pi_format.specs.Says.Classes.{types_said, classes_said, class_desc, method_desc}
 use Rattle.pi_format.specs.Says.Codes.{code_at}
@@ -172,7 +172,7 @@ one_class names main (d ∷ []) e =
     record { class = d; only = refl; called = a.0; fits = a.1 }
 one_class names main (d ∷ other ∷ ds) e = cc
 
-first_listed : {A : Type 0} (f : ℕ → A) (i n : ℕ) (x : A) → listed f i n ≡ x ∷ [] → x ≡ f i
+first_listed : {A : Type 0} (f : ℕ → A) (i n : ℕ) (x : A) → tabulation f i n ≡ x ∷ [] → x ≡ f i
 first_listed f i zero x e = cc
 first_listed f i (suc n) x e = cc
 
@@ -186,13 +186,13 @@ unfolding class_desc
 class_few n i below = said_small n (methods_in (rows_of n.file i)) below
 
 said_is : (file : List ℕ) → with_said core_program file
-    ≡ with_file core_program (new_names core_names (texts_of file)) (types_said (named core_program file)) (classes_said (named core_program file) 1)
+    ≡ with_file core_program (new_names core_names (texts_of file)) (types_said (named_file core_program file)) (classes_said (named_file core_program file) 1)
 unfolding with_said
 said_is file = refl
 
 -- what a file brings behind the first one
 brought : List ℕ → Brought
-brought file = record { names = new_names core_names (texts_of file); types = types_said (named core_program file) }
+brought file = record { names = new_names core_names (texts_of file); types = types_said (named_file core_program file) }
 
 -- the law of files, for one behind the first file
 abbrev Keeps : Type 0
@@ -210,18 +210,18 @@ module _ (fits : FitsBehind no_files core_names core_types core_classes) (keeps 
   unfolding with_said
   said_distinct kept = (keeps core_program file core_keeps core_room (omega arith) short kept).names_distinct
 
-  one_said : is_small main (with_said core_program file) ≡ true → OneClass (core_names ++ new_names core_names (texts_of file)) main (classes_said (named core_program file) 1)
+  one_said : is_small main (with_said core_program file) ≡ true → OneClass (core_names ++ new_names core_names (texts_of file)) main (classes_said (named_file core_program file) 1)
   unfolding is_small with_said
   one_said small =
       let p : Program = with_said core_program file in
-      one_class p.names main (classes_said (named core_program file) 1) (both (one_fits p.names main p.classes) (list_all is_plain_text p.names) small).0
+      one_class p.names main (classes_said (named_file core_program file) 1) (both (one_fits p.names main p.classes) (list_all is_plain_text p.names) small).0
 
-  chain_is : (one : OneClass (core_names ++ new_names core_names (texts_of file)) main (classes_said (named core_program file) 1))
+  chain_is : (one : OneClass (core_names ++ new_names core_names (texts_of file)) main (classes_said (named_file core_program file) 1))
       → with_said core_program file ≡ small_chain (brought file) one.class
   unfolding brought
-  chain_is one = said_is file ∙ ap (with_file core_program (new_names core_names (texts_of file)) (types_said (named core_program file))) one.only
+  chain_is one = said_is file ∙ ap (with_file core_program (new_names core_names (texts_of file)) (types_said (named_file core_program file))) one.only
 
-  class_of_one : broken_rule file ≡ None → OneClass (core_names ++ new_names core_names (texts_of file)) main (classes_said (named core_program file) 1)
+  class_of_one : broken_rule file ≡ None → OneClass (core_names ++ new_names core_names (texts_of file)) main (classes_said (named_file core_program file) 1)
       → HasSmallClass main (with_said core_program file)
   unfolding brought
   class_of_one kept one = record {
@@ -237,15 +237,15 @@ module _ (fits : FitsBehind no_files core_names core_types core_classes) (keeps 
   class_said kept small = class_of_one kept (one_said small)
 
   shape_of : broken_rule file ≡ None → ((k : ℕ) → slice_index file k < 256)
-      → OneClass (core_names ++ new_names core_names (texts_of file)) main (classes_said (named core_program file) 1)
+      → OneClass (core_names ++ new_names core_names (texts_of file)) main (classes_said (named_file core_program file) 1)
       → IsSmall main (with_said core_program file)
   unfolding brought
   shape_of kept below one =
       let d : ClassDesc = one.class in
       let is : Parts d = parts d one.fits in
       let laid : list_all method_laid d.methods ≡ true = methods_laid d d.methods is.methods in
-      let first : d ≡ class_desc (named core_program file) 1 0 =
-      first_listed (class_desc (named core_program file) 1) 0 (count_at file class_defs) d one.only in
+      let first : d ≡ class_desc (named_file core_program file) 1 0 =
+      first_listed (class_desc (named_file core_program file) 1) 0 (count_at file class_defs) d one.only in
       record {
         new = brought file;
         class = d;
@@ -255,9 +255,9 @@ module _ (fits : FitsBehind no_files core_names core_types core_classes) (keeps 
         named = one.called;
         laid = laid;
         narrow = each_small d.methods laid
-            (subst (λ (x : ClassDesc). list_all (λ (m : MethodDesc). few_registers m.code) x.methods ≡ true) (sym first) (class_few (named core_program file) 0 below));
+            (subst (λ (x : ClassDesc). list_all (λ (m : MethodDesc). few_registers m.code) x.methods ≡ true) (sym first) (class_few (named_file core_program file) 0 below));
         zero_values = fields_zero d.fields is.fields;
-        second = ap (λ (x : ClassDesc). x.file.0) first ∙ class_second (named core_program file) 0;
+        second = ap (λ (x : ClassDesc). x.file.0) first ∙ class_second (named_file core_program file) 0;
         no_faces = empty_is d.faces is.faces;
       }
 

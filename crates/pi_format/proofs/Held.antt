@@ -7,11 +7,11 @@ use Rattle.std.proofs.lemmas.Bool.Decides.{nat_tests}
 use Rattle.pi_model.specs.Distinct.{all_distinct}
 use Rattle.pi_bytes.specs.declared.fault.ReadFault.{ReadFault}
 use Rattle.pi_bytes.specs.Leb.{uleb_by}
-use Rattle.pi_bytes.specs.Mutf8.{spelled, units_at}
+use Rattle.pi_bytes.specs.Mutf8.{spellings, units_at}
 use Rattle.pi_bytes.proofs.Laws.{units_spelled, units_before}
 use Rattle.pi_bytes.specs.Numbers.{word_at}
 use Rattle.pi_format.specs.Tables.{count_at, string_ids, type_ids, proto_ids, field_ids, method_ids, class_defs}
-use Rattle.pi_format.specs.Rules.{Broken, asked, or_else, broken_tables_rule, broken_content_rule, broken_rule}
+use Rattle.pi_format.specs.Rules.{Broken, broken_or, or_else, broken_tables_rule, broken_content_rule, broken_rule}
 use Rattle.pi_format.specs.Rules.Entries.{first_bad, entry_at, broken_entry, list_fits, list_at}
 use Rattle.pi_format.specs.Rules.Header.{broken_length, broken_magic, broken_order, broken_header_size, broken_file_size, broken_checksum, broken_signature, broken_tables, broken_data}
 use Rattle.pi_format.specs.Rules.Map.{broken_map}
@@ -45,7 +45,7 @@ entry_holds file table width holds e k lt =
     (all_hold holds 0 (count_at file table) (mapped_none (entry_at file table width) (first_bad holds 0 (count_at file table)) e) k lt)
 
 -- rules one after the other
-none_asked : (rule : ℕ) (o : Option ℕ) (later : Option Broken) → asked rule o later ≡ None → (o ≡ None) × (later ≡ None)
+none_asked : (rule : ℕ) (o : Option ℕ) (later : Option Broken) → broken_or rule o later ≡ None → (o ≡ None) × (later ≡ None)
 none_asked rule None later e = (refl, e)
 none_asked rule (Some at) later e = cc
 
@@ -71,22 +71,22 @@ pub record TablesHold (file : List ℕ) : Type 0 where
 pub tables_hold : (file : List ℕ) → broken_tables_rule file ≡ None → TablesHold file
 unfolding broken_tables_rule
 tables_hold file e =
-    let r17 : Option Broken = asked 17 (broken_classes file) None in
-    let r16 : Option Broken = asked 16 (broken_methods file) r17 in
-    let r15 : Option Broken = asked 15 (broken_fields file) r16 in
-    let r14 : Option Broken = asked 14 (broken_protos file) r15 in
-    let r13 : Option Broken = asked 13 (broken_types file) r14 in
-    let r12 : Option Broken = asked 12 (broken_string_order file) r13 in
-    let r11 : Option Broken = asked 11 (broken_strings file) r12 in
-    let r10 : Option Broken = asked 10 (broken_map file) r11 in
-    let r9 : Option Broken = asked 9 (broken_data file) r10 in
-    let r8 : Option Broken = asked 8 (broken_tables file) r9 in
-    let r7 : Option Broken = asked 7 (broken_signature file) r8 in
-    let r6 : Option Broken = asked 6 (broken_checksum file) r7 in
-    let r5 : Option Broken = asked 5 (broken_file_size file) r6 in
-    let r4 : Option Broken = asked 4 (broken_header_size file) r5 in
-    let r3 : Option Broken = asked 3 (broken_order file) r4 in
-    let r2 : Option Broken = asked 2 (broken_magic file) r3 in
+    let r17 : Option Broken = broken_or 17 (broken_classes file) None in
+    let r16 : Option Broken = broken_or 16 (broken_methods file) r17 in
+    let r15 : Option Broken = broken_or 15 (broken_fields file) r16 in
+    let r14 : Option Broken = broken_or 14 (broken_protos file) r15 in
+    let r13 : Option Broken = broken_or 13 (broken_types file) r14 in
+    let r12 : Option Broken = broken_or 12 (broken_string_order file) r13 in
+    let r11 : Option Broken = broken_or 11 (broken_strings file) r12 in
+    let r10 : Option Broken = broken_or 10 (broken_map file) r11 in
+    let r9 : Option Broken = broken_or 9 (broken_data file) r10 in
+    let r8 : Option Broken = broken_or 8 (broken_tables file) r9 in
+    let r7 : Option Broken = broken_or 7 (broken_signature file) r8 in
+    let r6 : Option Broken = broken_or 6 (broken_checksum file) r7 in
+    let r5 : Option Broken = broken_or 5 (broken_file_size file) r6 in
+    let r4 : Option Broken = broken_or 4 (broken_header_size file) r5 in
+    let r3 : Option Broken = broken_or 3 (broken_order file) r4 in
+    let r2 : Option Broken = broken_or 2 (broken_magic file) r3 in
     let h1 = none_asked 1 (broken_length file) r2 e in
     let h2 = none_asked 2 (broken_magic file) r3 h1.1 in
     let h3 = none_asked 3 (broken_order file) r4 h2.1 in
@@ -127,11 +127,11 @@ pub record ContentHolds (file : List ℕ) : Type 0 where
 pub content_holds : (file : List ℕ) → broken_content_rule file ≡ None → ContentHolds file
 unfolding broken_content_rule
 content_holds file e =
-    let r23 : Option Broken = asked 23 (broken_payload file) None in
-    let r22 : Option Broken = asked 22 (broken_index file) r23 in
-    let r21 : Option Broken = asked 21 (broken_walk file) r22 in
-    let r20 : Option Broken = asked 20 (broken_code file) r21 in
-    let r19 : Option Broken = asked 19 (broken_values file) r20 in
+    let r23 : Option Broken = broken_or 23 (broken_payload file) None in
+    let r22 : Option Broken = broken_or 22 (broken_index file) r23 in
+    let r21 : Option Broken = broken_or 21 (broken_walk file) r22 in
+    let r20 : Option Broken = broken_or 20 (broken_code file) r21 in
+    let r19 : Option Broken = broken_or 19 (broken_values file) r20 in
     let h18 = none_asked 18 (broken_class_data file) r19 e in
     let h19 = none_asked 19 (broken_values file) r20 h18.1 in
     let h20 = none_asked 20 (broken_code file) r21 h19.1 in
@@ -145,24 +145,24 @@ pub string_there : (file : List ℕ) (i : ℕ) → broken_strings file ≡ None 
 string_there file i e lt = entry_holds file string_ids 4 (λ k. is_some (string_text file k)) e i lt
 
 bytes_of_units : (file : List ℕ) (begin count : ℕ) (r : Result (List ℕ × ℕ) ℕ) → units_at count (drop begin file) ≡ r → is_some (with_units begin r) ≡ true
-    → bytes_in file (with_units begin r) ≡ spelled (units_in (with_units begin r))
+    → bytes_in file (with_units begin r) ≡ spellings (units_in (with_units begin r))
 bytes_of_units file begin count (Err at) e some = cc
 bytes_of_units file begin count (Ok x) e some =
     let spells = units_spelled count (drop begin file) x.0 x.1 e in
     let before = units_before count (drop begin file) x.0 x.1 e in
-    rw (before, spells.spelt) (take_front (spelled x.0) (0 ∷ spells.rest))
+    rw (before, spells.spelt) (take_front (spellings x.0) (0 ∷ spells.rest))
   where
     take_front : (xs ys : List ℕ) → take (length xs) (xs ++ ys) ≡ xs
     take_front [] ys = refl
     take_front (x ∷ xs) ys = ap (λ zs. x ∷ zs) (take_front xs ys)
 
 bytes_of_count : (file : List ℕ) (at : ℕ) (r : Result (ℕ × ℕ) ReadFault) → is_some (with_count file at r) ≡ true
-    → bytes_in file (with_count file at r) ≡ spelled (units_in (with_count file at r))
+    → bytes_in file (with_count file at r) ≡ spellings (units_in (with_count file at r))
 bytes_of_count file at (Err fault) some = cc
 bytes_of_count file at (Ok x) some = bytes_of_units file (at + x.1) x.0 (units_at x.0 (drop (at + x.1) file)) refl some
 
 -- the bytes of a string that has a text are the spelling of its units
-pub bytes_spell : (file : List ℕ) (i : ℕ) → is_some (string_text file i) ≡ true → string_bytes file i ≡ spelled (string_units file i)
+pub bytes_spell : (file : List ℕ) (i : ℕ) → is_some (string_text file i) ≡ true → string_bytes file i ≡ spellings (string_units file i)
 unfolding string_text
 bytes_spell file i some =
     bytes_of_count file (word_at file (entry_at file string_ids 4 i)) (uleb_by 4 (drop (word_at file (entry_at file string_ids 4 i)) file)) some

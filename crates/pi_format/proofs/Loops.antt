@@ -5,7 +5,7 @@ use Rattle.std.proofs.lemmas.Bool.Decides.{nat_tests}
 use Rattle.std.proofs.Math.ListN.{drop_of_length-le}
 use Rattle.std.proofs.lemmas.List.{drop_more, append-nil}
 use Rattle.pi_format.specs.Rules.Entries.{first_bad, some_from, each_from}
-use Rattle.pi_format.specs.Rules.Lowest.{lower, lowest_from, listed}
+use Rattle.pi_format.specs.Rules.Lowest.{lower, lowest_from, tabulation}
 
 pub bad_goes : (holds : ℕ → Bool) (i n : ℕ) → i < n → holds i ≡ true → first_bad holds (i + 1) (n - (i + 1)) ≡ first_bad holds i (n - i)
 bad_goes holds i n lt e =
@@ -106,21 +106,21 @@ lowest_done place found i n le =
     rw done (lower_none found)
 
 pub listed_goes : {A : Type 0} (f : ℕ → A) (done : List A) (i n : ℕ) → i < n
-    → (done ++ f i ∷ []) ++ listed f (i + 1) (n - (i + 1)) ≡ done ++ listed f i (n - i)
+    → (done ++ f i ∷ []) ++ tabulation f (i + 1) (n - (i + 1)) ≡ done ++ tabulation f i (n - i)
 listed_goes f done i n lt =
     let more : n - i ≡ suc (n - (i + 1)) = omega arith in
-    rw more (append_assoc done (f i ∷ []) (listed f (i + 1) (n - (i + 1))))
+    rw more (append_assoc done (f i ∷ []) (tabulation f (i + 1) (n - (i + 1))))
 
-pub listed_done : {A : Type 0} (f : ℕ → A) (done : List A) (i n : ℕ) → n ≤ i → done ++ listed f i (n - i) ≡ done
+pub listed_done : {A : Type 0} (f : ℕ → A) (done : List A) (i n : ℕ) → n ≤ i → done ++ tabulation f i (n - i) ≡ done
 listed_done f done i n le =
     let none : n - i ≡ zero = omega arith in
     rw none (append-nil done)
 
-pub listed_length : {A : Type 0} (f : ℕ → A) (i n : ℕ) → length (listed f i n) ≡ n
+pub listed_length : {A : Type 0} (f : ℕ → A) (i n : ℕ) → length (tabulation f i n) ≡ n
 listed_length f i zero = refl
 listed_length f i (suc n) = ap suc (listed_length f (i + 1) n)
 
-pub listed_get : {A : Type 0} (f : ℕ → A) (i n k : ℕ) → k < n → slice_get (listed f i n) k ≡ Some (f (i + k))
+pub listed_get : {A : Type 0} (f : ℕ → A) (i n k : ℕ) → k < n → slice_get (tabulation f i n) k ≡ Some (f (i + k))
 listed_get f i zero k lt = absurd (omega arith)
 listed_get f i (suc n) zero lt = ap (λ (j : ℕ). Some (f j)) (sym (add-zero i))
 listed_get f i (suc n) (suc k) lt =

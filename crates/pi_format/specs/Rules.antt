@@ -29,24 +29,24 @@ pub record Broken : Type 0 where
   pub at : ℕ
 
 -- a rule that is broken at a place, or else what the rules behind it say
-abbrev pub asked : ℕ → Option ℕ → Option Broken → Option Broken
-asked rule None later = later
-asked rule (Some at) later = Some (record { rule = rule; at = at })
+abbrev pub broken_or : ℕ → Option ℕ → Option Broken → Option Broken
+broken_or rule None later = later
+broken_or rule (Some at) later = Some (record { rule = rule; at = at })
 
 -- rules X1 to X17
 unfoldable pub broken_tables_rule : List ℕ → Option Broken
 broken_tables_rule file =
-    asked 1 (broken_length file) (asked 2 (broken_magic file) (asked 3 (broken_order file) (asked 4 (broken_header_size file)
-    (asked 5 (broken_file_size file) (asked 6 (broken_checksum file) (asked 7 (broken_signature file) (asked 8 (broken_tables file)
-    (asked 9 (broken_data file) (asked 10 (broken_map file) (asked 11 (broken_strings file) (asked 12 (broken_string_order file)
-    (asked 13 (broken_types file) (asked 14 (broken_protos file) (asked 15 (broken_fields file) (asked 16 (broken_methods file)
-    (asked 17 (broken_classes file) None))))))))))))))))
+    broken_or 1 (broken_length file) (broken_or 2 (broken_magic file) (broken_or 3 (broken_order file) (broken_or 4 (broken_header_size file)
+    (broken_or 5 (broken_file_size file) (broken_or 6 (broken_checksum file) (broken_or 7 (broken_signature file) (broken_or 8 (broken_tables file)
+    (broken_or 9 (broken_data file) (broken_or 10 (broken_map file) (broken_or 11 (broken_strings file) (broken_or 12 (broken_string_order file)
+    (broken_or 13 (broken_types file) (broken_or 14 (broken_protos file) (broken_or 15 (broken_fields file) (broken_or 16 (broken_methods file)
+    (broken_or 17 (broken_classes file) None))))))))))))))))
 
 -- rules X18 to X23, of a file whose tables hold
 unfoldable pub broken_content_rule : List ℕ → Option Broken
 broken_content_rule file =
-    asked 18 (broken_class_data file) (asked 19 (broken_values file) (asked 20 (broken_code file) (asked 21 (broken_walk file)
-    (asked 22 (broken_index file) (asked 23 (broken_payload file) None)))))
+    broken_or 18 (broken_class_data file) (broken_or 19 (broken_values file) (broken_or 20 (broken_code file) (broken_or 21 (broken_walk file)
+    (broken_or 22 (broken_index file) (broken_or 23 (broken_payload file) None)))))
 
 -- what rules on tables say, or else the rules on what they lead to
 abbrev pub or_else : Option Broken → Option Broken → Option Broken

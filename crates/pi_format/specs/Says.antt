@@ -10,14 +10,14 @@ pub mod Codes
 pub mod Classes
 
 -- a file behind a chain, with the numbers that its strings have there
-abbrev pub named : Program → List ℕ → Named
-named p file = record { file = file; numbers = name_numbers p.names file }
+abbrev pub named_file : Program → List ℕ → Named
+named_file p file = record { file = file; numbers = name_numbers p.names file }
 
 -- A chain with one more file: the strings that are no names yet are the new ones, in the order of the strings; then its
 -- types, and its classes in the order of their definitions.
 unfoldable pub with_said : Program → List ℕ → Program
 with_said p file =
-    with_file p (new_names p.names (texts_of file)) (types_said (named p file)) (classes_said (named p file) (length p.files))
+    with_file p (new_names p.names (texts_of file)) (types_said (named_file p file)) (classes_said (named_file p file) (length p.files))
 
 -- one file more turns a program into another: the file breaks no rule, and the other is the chain with it
 pub record SaysNext (before : Program) (file : List ℕ) (after : Program) : Type 0 where

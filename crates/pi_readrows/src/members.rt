@@ -9,7 +9,7 @@
 ghost use Rattle.std.specs.Prelude.{◌≡◌};
 ghost use Rattle.pi_format.specs.Tables.{count_at, class_defs};
 ghost use Rattle.pi_format.specs.Rules.ClassData.{rows_of};
-ghost use Rattle.pi_format.specs.Rules.Lowest.{listed};
+ghost use Rattle.pi_format.specs.Rules.Lowest.{tabulation};
 
 use crate::lines::{Telling, tell};
 use pi_classdata::{
@@ -165,7 +165,7 @@ fn add_values(
     raw: &Raw<'_>,
     table: &RowTable,
 ) -> Result<(), AllocError>
-    requires { table.now ≡ listed (rows_of raw.now) 0 (count_at raw.now class_defs) }
+    requires { table.now ≡ tabulation (rows_of raw.now) 0 (count_at raw.now class_defs) }
 {
     for i in 0..raw.class_defs() {
         if table.len() <= i as usize {

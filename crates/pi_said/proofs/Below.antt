@@ -9,7 +9,7 @@ use Rattle.pi_model.specs.Uses.{name_below, names_below, optional_below, field_r
 use Rattle.pi_insn.specs.declared.raw.RawBody.{RawBody}
 use Rattle.pi_insn.specs.declared.raw.RawBody.TheVariants.{ConstString, ConstClass, CheckCast, InstanceOf, NewInstance, NewArray, Filled, Iget, Iput, Sget, Sput, Invoke}
 use Rattle.pi_format.specs.Rules.Entries.{list_at}
-use Rattle.pi_format.specs.Rules.Lowest.{listed}
+use Rattle.pi_format.specs.Rules.Lowest.{tabulation}
 use Rattle.pi_format.specs.Rules.Strings.{type_string}
 use Rattle.pi_format.specs.Rules.Members.{member_entry, proto_entry}
 use Rattle.pi_format.specs.Rules.Classes.{class_entry}
@@ -94,7 +94,7 @@ range_is count n below r (l ∷ ls) place =
 catches_are : (count : ℕ) (n : Named) → StringsBelow count n → (at : ℕ) (head : CodeHead) (lists : Option (List HandlerList)) → list_all (catch_below count) (catches_of n at head lists) ≡ true
 catches_are count n below at head None = refl
 catches_are count n below at head (Some lists) =
-    flat_map_all (catch_below count) (catches_at n at head lists) (listed (λ k. k) 0 head.tries)
+    flat_map_all (catch_below count) (catches_at n at head lists) (tabulation (λ k. k) 0 head.tries)
     (λ k. range_is count n below (try_range n.file (tries_at at head) k) lists (lists_at at head + (try_range n.file (tries_at at head) k).handlers))
 
 code_is : (count : ℕ) (n : Named) → StringsBelow count n → (at : ℕ) → code_below count (code_of n at) ≡ true

@@ -6,7 +6,7 @@ use Rattle.std.proofs.lemmas.Bool.{and_parts, and_from, or_parts, cases_Bool, ca
 use Rattle.std.proofs.lemmas.Bool.Decides.{nat_tests}
 use Rattle.std.proofs.lemmas.List.Sums.{sum_by-cons}
 use Rattle.pi_model.specs.Distinct.{all_distinct}
-use Rattle.pi_format.specs.Rules.Lowest.{listed}
+use Rattle.pi_format.specs.Rules.Lowest.{tabulation}
 use Rattle.pi_said.proofs.Lists.{distinct_parts}
 
 -- how many of the first n numbers pass a test
@@ -128,13 +128,13 @@ few_owned of (suc n) owners distinct =
 
 -- a sum over what a function gives, by a bound of each
 pub sum-listed_le : {A B : Type 0} (f : A → ℕ) (g : B → ℕ) (a : ℕ → A) (b : ℕ → B) (i n : ℕ) → ((k : ℕ) → k < i + n → f (a k) ≤ g (b k))
-    → sum_by f (listed a i n) ≤ sum_by g (listed b i n)
+    → sum_by f (tabulation a i n) ≤ sum_by g (tabulation b i n)
 sum-listed_le f g a b i zero each = omega arith
 sum-listed_le f g a b i (suc n) each =
     omega (
       arith,
-      sum_by-cons f (a i) (listed a (i + 1) n),
-      sum_by-cons g (b i) (listed b (i + 1) n),
+      sum_by-cons f (a i) (tabulation a (i + 1) n),
+      sum_by-cons g (b i) (tabulation b (i + 1) n),
       each i (omega arith),
       sum-listed_le f g a b (i + 1) n (λ k lt. each k (omega arith)),
     )

@@ -13,7 +13,7 @@ use Rattle.pi_model.proofs.Kept.{kept_at_first, kept_behind}
 use Rattle.pi_format.specs.Tables.{count_at, string_ids, type_ids, class_defs}
 use Rattle.pi_format.specs.Rules.{broken_rule}
 use Rattle.pi_format.specs.Rules.Strings.{string_units}
-use Rattle.pi_format.specs.Says.{named, with_said, SaysBehind, Says, HasRoom}
+use Rattle.pi_format.specs.Says.{named_file, with_said, SaysBehind, Says, HasRoom}
 use Rattle.pi_format.specs.Says.Names.{Named, texts_of, new_names, type_name}
 use Rattle.pi_format.specs.Says.Classes.{class_desc, types_said, classes_said}
 use Rattle.pi_format.proofs.Held.{rule_parts, tables_hold, TablesHold, type_named, class_kept}
@@ -27,14 +27,14 @@ use Rattle.pi_said.proofs.Below.{StringsBelow, type_below, class_is, class_filed
 -- what a file brings is no more than it has bytes
 record BringsFew (p : Program) (file : List ℕ) : Type 0 where
   names : length (new_names p.names (texts_of file)) ≤ length file
-  types : length (new_types p.types (types_said (named p file))) ≤ length file
-  classes : length (classes_said (named p file) (length p.files)) ≤ length file
-  fields : sum_by field_count (classes_said (named p file) (length p.files)) ≤ length file
-  methods : sum_by method_count (classes_said (named p file) (length p.files)) ≤ length file
+  types : length (new_types p.types (types_said (named_file p file))) ≤ length file
+  classes : length (classes_said (named_file p file) (length p.files)) ≤ length file
+  fields : sum_by field_count (classes_said (named_file p file) (length p.files)) ≤ length file
+  methods : sum_by method_count (classes_said (named_file p file) (length p.files)) ≤ length file
 
 brings_few : (p : Program) (file : List ℕ) → TablesHold file → BringsFew p file
 brings_few p file tables =
-    let n : Named = named p file in
+    let n : Named = named_file p file in
     let lie = tables_lie file tables.tables in
     record {
       names = omega (arith, lie.strings, length-new p.names (texts_of file), length-listed (string_units file) 0 (count_at file string_ids));
@@ -45,7 +45,7 @@ brings_few p file tables =
     }
 
 -- the number of each string is that of a name, where the file has a string
-strings_below : (p : Program) (file : List ℕ) → 0 < count_at file string_ids → StringsBelow (length p.names + length (new_names p.names (texts_of file))) (named p file)
+strings_below : (p : Program) (file : List ℕ) → 0 < count_at file string_ids → StringsBelow (length p.names + length (new_names p.names (texts_of file))) (named_file p file)
 strings_below p file some =
     let long : 0 < length (texts_of file) = omega (arith, length-listed (string_units file) 0 (count_at file string_ids)) in
     record { each = λ i. lt-ltb _ (length p.names + length (new_names p.names (texts_of file))) (number_said p.names (texts_of file) long i) }
@@ -58,9 +58,9 @@ type_for_class : (file : List ℕ) → TablesHold file → 0 < count_at file cla
 type_for_class file tables some = let there = (class_kept file 0 tables.classes some).class in omega arith
 
 pub said_fits : (p : Program) (file : List ℕ) → IsProgram p → HasRoom p → length p.files < 8 → length file ≤ 16777216 → broken_rule file ≡ None
-    → FitsBehind p (new_names p.names (texts_of file)) (types_said (named p file)) (classes_said (named p file) (length p.files))
+    → FitsBehind p (new_names p.names (texts_of file)) (types_said (named_file p file)) (classes_said (named_file p file) (length p.files))
 said_fits p file keeps room few short kept =
-    let n : Named = named p file in
+    let n : Named = named_file p file in
     let number : ℕ = length p.files in
     let count : ℕ = length p.names + length (new_names p.names (texts_of file)) in
     let tables = tables_hold file (rule_parts file kept).0 in
@@ -84,7 +84,7 @@ said_fits p file keeps room few short kept =
 pub said_keeps : (p : Program) (file : List ℕ) → IsProgram p → HasRoom p → length p.files < 8 → length file ≤ 16777216 → broken_rule file ≡ None → IsProgram (with_said p file)
 unfolding with_said
 said_keeps p file keeps room few short kept =
-    kept_behind p (new_names p.names (texts_of file)) (types_said (named p file)) (classes_said (named p file) (length p.files)) keeps (said_fits p file keeps room few short kept)
+    kept_behind p (new_names p.names (texts_of file)) (types_said (named_file p file)) (classes_said (named_file p file) (length p.files)) keeps (said_fits p file keeps room few short kept)
 
 one_file_more : (p : Program) (file : List ℕ) → length (with_said p file).files ≡ length p.files + 1
 unfolding with_said
@@ -93,7 +93,7 @@ one_file_more p file = length_push p.files _
 pub said_has_room : (p : Program) (file : List ℕ) → HasRoom p → length file ≤ 16777216 → broken_rule file ≡ None → HasRoom (with_said p file)
 unfolding with_said
 said_has_room p file room short kept =
-    let n : Named = named p file in
+    let n : Named = named_file p file in
     let classes : List ClassDesc = classes_said n (length p.files) in
     let brings = brings_few p file (tables_hold file (rule_parts file kept).0) in
     let files : length (with_said p file).files ≡ length p.files + 1 = one_file_more p file in

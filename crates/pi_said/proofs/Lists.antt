@@ -4,13 +4,13 @@ use Rattle.std.specs.List.{list_all, list_any, flat_map}
 use Rattle.std.proofs.lemmas.Bool.{and_parts, and_from, or_parts, or_from, cases_Bool, cases_lt, not-true, not_from_false}
 use Rattle.std.proofs.lemmas.List.Folds.{list_all-append, list_any-append}
 use Rattle.pi_model.specs.Distinct.{all_distinct}
-use Rattle.pi_format.specs.Rules.Lowest.{listed}
+use Rattle.pi_format.specs.Rules.Lowest.{tabulation}
 
-pub length-listed : {A : Type 0} (f : ℕ → A) (i n : ℕ) → length (listed f i n) ≡ n
+pub length-listed : {A : Type 0} (f : ℕ → A) (i n : ℕ) → length (tabulation f i n) ≡ n
 length-listed f i zero = refl
 length-listed f i (suc n) = omega (arith, length-listed f (i + 1) n)
 
-pub get_or-listed : {A : Type 0} (f : ℕ → A) (i n k : ℕ) (d : A) → k < n → get_or (listed f i n) k d ≡ f (i + k)
+pub get_or-listed : {A : Type 0} (f : ℕ → A) (i n k : ℕ) (d : A) → k < n → get_or (tabulation f i n) k d ≡ f (i + k)
 get_or-listed f i zero k d lt = absurd (omega arith)
 get_or-listed f i (suc n) zero d lt = let here : i ≡ i + 0 = omega arith in ap_at f here
   where
@@ -18,19 +18,19 @@ get_or-listed f i (suc n) zero d lt = let here : i ≡ i + 0 = omega arith in ap
     ap_at f e = cc
 get_or-listed f i (suc n) (suc k) d lt =
     let place : i + 1 + k ≡ i + suc k = omega arith in
-    subst (λ (j : ℕ). get_or (listed f (i + 1) n) k d ≡ f j) place (get_or-listed f (i + 1) n k d (omega arith))
+    subst (λ (j : ℕ). get_or (tabulation f (i + 1) n) k d ≡ f j) place (get_or-listed f (i + 1) n k d (omega arith))
 
 -- what a function gives passes a test
-pub listed_all : {A : Type 0} (p : A → Bool) (f : ℕ → A) (i n : ℕ) → ((k : ℕ) → k < i + n → p (f k) ≡ true) → list_all p (listed f i n) ≡ true
+pub listed_all : {A : Type 0} (p : A → Bool) (f : ℕ → A) (i n : ℕ) → ((k : ℕ) → k < i + n → p (f k) ≡ true) → list_all p (tabulation f i n) ≡ true
 listed_all p f i zero each = refl
 listed_all p f i (suc n) each =
-    and_from (p (f i)) (list_all p (listed f (i + 1) n)) (each i (omega arith))
+    and_from (p (f i)) (list_all p (tabulation f (i + 1) n)) (each i (omega arith))
     (listed_all p f (i + 1) n (λ k lt. each k (omega arith)))
 
-listed_none : {A : Type 0} (p : A → Bool) (f : ℕ → A) (i n : ℕ) → ((k : ℕ) → i ≤ k → k < i + n → p (f k) ≡ false) → list_any p (listed f i n) ≡ false
+listed_none : {A : Type 0} (p : A → Bool) (f : ℕ → A) (i n : ℕ) → ((k : ℕ) → i ≤ k → k < i + n → p (f k) ≡ false) → list_any p (tabulation f i n) ≡ false
 listed_none p f i zero each = refl
 listed_none p f i (suc n) each =
-    or_from (p (f i)) (list_any p (listed f (i + 1) n)) (each i (omega arith) (omega arith))
+    or_from (p (f i)) (list_any p (tabulation f (i + 1) n)) (each i (omega arith) (omega arith))
     (listed_none p f (i + 1) n (λ k le lt. each k (omega arith) (omega arith)))
 
 pub distinct_from : {A : Type 0} (same : A → A → Bool) (x : A) (xs : List A) → list_any (same x) xs ≡ false → all_distinct same xs ≡ true → all_distinct same (x ∷ xs) ≡ true
@@ -44,10 +44,10 @@ distinct_parts same x xs h =
     ]
 
 -- what a function gives is distinct, where what it gives for two numbers differs
-pub listed_distinct : {A : Type 0} (same : A → A → Bool) (f : ℕ → A) (i n : ℕ) → ((j k : ℕ) → j < k → k < i + n → same (f j) (f k) ≡ false) → all_distinct same (listed f i n) ≡ true
+pub listed_distinct : {A : Type 0} (same : A → A → Bool) (f : ℕ → A) (i n : ℕ) → ((j k : ℕ) → j < k → k < i + n → same (f j) (f k) ≡ false) → all_distinct same (tabulation f i n) ≡ true
 listed_distinct same f i zero apart = refl
 listed_distinct same f i (suc n) apart =
-    distinct_from same (f i) (listed f (i + 1) n)
+    distinct_from same (f i) (tabulation f (i + 1) n)
     (listed_none (same (f i)) f (i + 1) n (λ k le lt. apart i k (omega arith) (omega arith)))
     (listed_distinct same f (i + 1) n (λ j k less lt. apart j k less (omega arith)))
 

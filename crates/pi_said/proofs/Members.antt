@@ -16,7 +16,7 @@ use Rattle.pi_format.specs.Tables.{count_at, field_ids, method_ids, class_defs}
 use Rattle.pi_format.specs.declared.lists.MemberList.{MemberList}
 use Rattle.pi_format.specs.declared.lists.MemberList.TheVariants.{StaticFields, InstanceFields, DirectMethods, VirtualMethods}
 use Rattle.pi_format.specs.Rules.Entries.{some_from}
-use Rattle.pi_format.specs.Rules.Lowest.{listed}
+use Rattle.pi_format.specs.Rules.Lowest.{tabulation}
 use Rattle.pi_format.specs.Rules.Rows.{MemberRow, is_behind, member_row, rows_from}
 use Rattle.pi_format.specs.Rules.Members.{member_entry}
 use Rattle.pi_format.specs.Rules.Classes.{class_entry, is_defined_in, broken_classes}
@@ -162,7 +162,7 @@ not_before file k t none j lt =
     let place : 0 + j ≡ j = omega arith in
     subst (λ (i : ℕ). ((class_entry file i).class == t) ≡ false) place (none_from (λ i. (class_entry file i).class == t) 0 k none j lt)
 
-classes_distinct : (file : List ℕ) → broken_classes file ≡ None → all_distinct nat_eq (listed (λ i. (class_entry file i).class) 0 (count_at file class_defs)) ≡ true
+classes_distinct : (file : List ℕ) → broken_classes file ≡ None → all_distinct nat_eq (tabulation (λ i. (class_entry file i).class) 0 (count_at file class_defs)) ≡ true
 classes_distinct file none =
     listed_distinct nat_eq (λ i. (class_entry file i).class) 0 (count_at file class_defs)
     (λ j k less lt. not_before file k (class_entry file k).class (class_kept file k none (omega arith)).new j less)
@@ -205,14 +205,14 @@ class_methods n number i =
 -- all classes of a file together have no more fields and methods than its tables
 pub few_fields : (n : Named) (number : ℕ) → broken_classes n.file ≡ None → sum_by field_count (classes_said n number) ≤ count_at n.file field_ids
 few_fields n number none =
-    let classes = listed (λ i. (class_entry n.file i).class) 0 (count_at n.file class_defs) in
+    let classes = tabulation (λ i. (class_entry n.file i).class) 0 (count_at n.file class_defs) in
     let each = sum-listed_le field_count (owned (field_class n.file) (count_at n.file field_ids)) (class_desc n number) (λ i. (class_entry n.file i).class) 0 (count_at n.file class_defs)
     (λ k lt. class_fields n number k) in
     omega (arith, few_owned (field_class n.file) (count_at n.file field_ids) classes (classes_distinct n.file none))
 
 pub few_methods : (n : Named) (number : ℕ) → broken_classes n.file ≡ None → sum_by method_count (classes_said n number) ≤ count_at n.file method_ids
 few_methods n number none =
-    let classes = listed (λ i. (class_entry n.file i).class) 0 (count_at n.file class_defs) in
+    let classes = tabulation (λ i. (class_entry n.file i).class) 0 (count_at n.file class_defs) in
     let each = sum-listed_le method_count (owned (method_class n.file) (count_at n.file method_ids)) (class_desc n number) (λ i. (class_entry n.file i).class) 0 (count_at n.file class_defs)
     (λ k lt. class_methods n number k) in
     omega (arith, few_owned (method_class n.file) (count_at n.file method_ids) classes (classes_distinct n.file none))

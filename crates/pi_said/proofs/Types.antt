@@ -14,7 +14,7 @@ use Rattle.pi_model.specs.Program.{Program, same_name}
 use Rattle.pi_format.specs.Tables.{count_at, string_ids, type_ids}
 use Rattle.pi_format.specs.Rules.Descriptors.{is_descriptor}
 use Rattle.pi_format.specs.Rules.Strings.{string_units, string_rises, type_string, type_units, type_holds, broken_string_order, broken_types}
-use Rattle.pi_format.specs.Says.{named}
+use Rattle.pi_format.specs.Says.{named_file}
 use Rattle.pi_format.specs.Says.Names.{texts_of, new_names, name_numbers, type_name}
 use Rattle.pi_format.specs.Says.Classes.{types_said}
 use Rattle.pi_format.specs.Core.{name_no}
@@ -91,18 +91,18 @@ number_of_one names file i j a b same =
     cc
 
 -- no two types have one name
-pub types_distinct : (p : Program) (file : List ℕ) → broken_string_order file ≡ None → broken_types file ≡ None → all_distinct same_name (types_said (named p file)) ≡ true
+pub types_distinct : (p : Program) (file : List ℕ) → broken_string_order file ≡ None → broken_types file ≡ None → all_distinct same_name (types_said (named_file p file)) ≡ true
 types_distinct p file order types =
-    listed_distinct same_name (type_name (named p file)) 0 (count_at file type_ids)
+    listed_distinct same_name (type_name (named_file p file)) 0 (count_at file type_ids)
     (λ j k less lt. differ j k less (omega arith))
   where
-    differ : (j k : ℕ) → j < k → k < count_at file type_ids → same_name (type_name (named p file) j) (type_name (named p file) k) ≡ false
+    differ : (j k : ℕ) → j < k → k < count_at file type_ids → same_name (type_name (named_file p file) j) (type_name (named_file p file) k) ≡ false
     differ j k less lt =
-        elim (cases_Bool (same_name (type_name (named p file) j) (type_name (named p file) k))) [
+        elim (cases_Bool (same_name (type_name (named_file p file) j) (type_name (named_file p file) k))) [
           | inl e ↦
               let there : type_string file k < count_at file string_ids = type_named file k types lt in
               let rising : type_string file j < type_string file k = types_rise file types j k less lt in
-              let same = eqb-true (type_name (named p file) j).0 (type_name (named p file) k).0 e in
+              let same = eqb-true (type_name (named_file p file) j).0 (type_name (named_file p file) k).0 e in
               absurd (below_differs (string_units file (type_string file j)) (string_units file (type_string file k))
               (texts_rise file order (type_string file j) (type_string file k) rising there)
               (number_of_one p.names file (type_string file j) (type_string file k) (omega arith) there same))

@@ -8,7 +8,7 @@ ghost use Rattle.pi_model.specs.Valid.{FitsBehind, IsProgram};
 ghost use Rattle.pi_format.specs.Tables.{count_at, string_ids};
 ghost use Rattle.pi_format.specs.Rules.{broken_rule};
 ghost use Rattle.pi_format.specs.Rules.Strings.{string_units};
-ghost use Rattle.pi_format.specs.Says.{HasRoom, Says, named, with_said};
+ghost use Rattle.pi_format.specs.Says.{HasRoom, Says, named_file, with_said};
 ghost use Rattle.pi_format.specs.Says.Classes.{classes_said, types_said};
 ghost use Rattle.pi_format.specs.Says.Names.{new_names, string_name, texts_of};
 
@@ -16,8 +16,8 @@ ghost use Rattle.pi_format.specs.Says.Names.{new_names, string_name, texts_of};
 pub fn said_fits()
     ensures { (p : Program) (file : List ℕ) → IsProgram p → HasRoom p → length p.files < 8
         → length file ≤ 16777216 → broken_rule file ≡ None
-        → FitsBehind p (new_names p.names (texts_of file)) (types_said (named p file))
-        (classes_said (named p file) (length p.files)) }
+        → FitsBehind p (new_names p.names (texts_of file)) (types_said (named_file p file))
+        (classes_said (named_file p file) (length p.files)) }
 {}
 
 /// The law that there is room in a program with such a file more.
@@ -36,7 +36,7 @@ pub fn said_keeps()
 /// text.
 pub fn names_are_texts()
     ensures { (p : Program) (file : List ℕ) (i : ℕ) → i < count_at file string_ids
-        → slice_get (with_said p file).names (string_name (named p file) i).0 ≡ Some (string_units file i) }
+        → slice_get (with_said p file).names (string_name (named_file p file) i).0 ≡ Some (string_units file i) }
 {}
 
 /// The law of chains: what holds of the program that up to eight files of at most 16 MiB say.

@@ -8,7 +8,7 @@ use Rattle.pi_machine.specs.Ends.{Finish, End, Returned, StepLimit, Ends, next, 
 use Rattle.pi_duty.specs.Duty.{lazy_setting}
 use Rattle.pi_top.specs.declared.plain.place.Stage.{Stage}
 use Rattle.pi_top.specs.declared.plain.place.Stage.TheVariants as stage
-use Rattle.pi_top.specs.Plain.{View, Plain, plain_step, is_over, finished, plain_by, Fits}
+use Rattle.pi_top.specs.Plain.{View, Plain, plain_step, is_over, finish_of, plain_by, Fits}
 use Rattle.pi_top.proofs.PlainLaws.{fits_on}
 use Rattle.pi_top.proofs.MachineSteps.{Found, Begun, begun_on, clinit_no_end, state_at, state_for, counted, StepIs, step_is}
 
@@ -38,7 +38,7 @@ module _ (new : Brought) (v : View) (main clinit : ℕ) (things : List Thing) (f
   no_end s out stage.Running e = refl
 
   ends_now : (s : Plain) (made : ℕ) (out : List ℕ) (end : End) (f : Finish) → next (small_chain new v.class) (lazy_setting limit) (state_at new v main clinit things s out) (counted new v main clinit things made) ≡ Ends end
-      → Some (finished end out made) ≡ Some f → EndsFrom (small_chain new v.class) (lazy_setting limit) (state_at new v main clinit things s out) (counted new v main clinit things made) f
+      → Some (finish_of end out made) ≡ Some f → EndsFrom (small_chain new v.class) (lazy_setting limit) (state_at new v main clinit things s out) (counted new v main clinit things made) f
   ends_now s made out end f e same = (1, ap (goes_on (run_by (small_chain new v.class) (lazy_setting limit) 0) (state_at new v main clinit things s out) (counted new v main clinit things made)) e ∙ same)
 
   -- one step of the plain run under its limit
@@ -46,7 +46,7 @@ module _ (new : Brought) (v : View) (main clinit : ℕ) (things : List Thing) (f
       → Fits v s → Begun new v main clinit things s s.stage
       → ((s : Plain) (made : ℕ) (out : List ℕ) → plain_by n v limit s made out ≡ Some f → Fits v s → Begun new v main clinit things s s.stage
       → EndsFrom (small_chain new v.class) (lazy_setting limit) (state_at new v main clinit things s out) (counted new v main clinit things made) f)
-      → (if over then Some (finished Returned out made) else if met then Some (finished StepLimit out made) else
+      → (if over then Some (finish_of Returned out made) else if met then Some (finish_of StepLimit out made) else
       plain_by n v limit (plain_step v s).state (made + 1) (out ++ (plain_step v s).printed)) ≡ Some f
       → EndsFrom (small_chain new v.class) (lazy_setting limit) (state_at new v main clinit things s out) (counted new v main clinit things made) f
   plain_by_cases n f s made out true met is at fits b ih e =

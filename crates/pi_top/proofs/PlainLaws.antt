@@ -16,7 +16,7 @@ use Rattle.pi_base.specs.Outside.{grown, Begins, BrokeOff}
 use Rattle.pi_base.proofs.Taken.{grown-grown, rose_after}
 use Rattle.pi_top.specs.Places.{Registers}
 use Rattle.pi_top.specs.Row.{effect_of}
-use Rattle.pi_top.specs.Plain.{View, Plain, insn_or_return, insn_of, effect_at, line_after, frame_after, stage_after, main_step, stage_after_values, clinit_move, plain_move, plain_step, is_over, finished, PlainEnds, FrameFits, ClinitFits, Fits}
+use Rattle.pi_top.specs.Plain.{View, Plain, insn_or_return, insn_of, effect_at, line_after, frame_after, stage_after, main_step, stage_after_values, clinit_move, plain_move, plain_step, is_over, finish_of, PlainEnds, FrameFits, ClinitFits, Fits}
 
 -- an instruction keeps how many registers and statics there are
 pub registers_stay : (d : ClassDesc) (i : Insn) (r s : List ℕ) → length (effect_of d i r s).registers ≡ length r
@@ -120,10 +120,10 @@ over_not : (stage : Stage) → is_over stage ≡ false → stage ≢ Over
 over_not stage e h = true-not-false (is_over stage) (ap is_over h) e
 
 -- how a run ends at its last stage, at the limit, and else as it ends after a step
-pub ends_over : (v : View) (limit : ℕ) (s : Plain) (made : ℕ) (out : List ℕ) → is_over s.stage ≡ true → PlainEnds v limit s made out (finished Returned out made)
+pub ends_over : (v : View) (limit : ℕ) (s : Plain) (made : ℕ) (out : List ℕ) → is_over s.stage ≡ true → PlainEnds v limit s made out (finish_of Returned out made)
 ends_over v limit s made out over = record { count = 1; ends = rw over refl }
 
-pub ends_limited : (v : View) (limit : ℕ) (s : Plain) (made : ℕ) (out : List ℕ) → is_over s.stage ≡ false → made ≡ limit → PlainEnds v limit s made out (finished StepLimit out made)
+pub ends_limited : (v : View) (limit : ℕ) (s : Plain) (made : ℕ) (out : List ℕ) → is_over s.stage ≡ false → made ≡ limit → PlainEnds v limit s made out (finish_of StepLimit out made)
 ends_limited v limit s made out goes met =
     let b : (made == limit) ≡ true = grind arith in
     record { count = 1; ends = rw (goes, b) refl }
@@ -156,7 +156,7 @@ over_or_not false = inr refl
 
 ends_now : (v : View) (limit : ℕ) (s : Plain) (made : ℕ) (out : List ℕ) → is_over s.stage ≡ true → EndsAfter v limit s made out
 ends_now v limit s made out over = record {
-  finish = finished Returned out made;
+  finish = finish_of Returned out made;
   ends = ends_over v limit s made out over;
   rest = [];
   front = append-nil out;
@@ -166,7 +166,7 @@ ends_left : (left : ℕ) (v : View) (limit : ℕ) (s : Plain) (made : ℕ) (out 
 ends_left zero v limit s made out is = elim (over_or_not (is_over s.stage)) [
   | inl over ↦ ends_now v limit s made out over
   | inr goes ↦ record {
-    finish = finished StepLimit out made;
+    finish = finish_of StepLimit out made;
     ends = ends_limited v limit s made out goes (omega arith);
     rest = [];
     front = append-nil out;

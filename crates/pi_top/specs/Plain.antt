@@ -124,16 +124,16 @@ is_over Finishing = false
 is_over Ready = false
 is_over Running = false
 
-abbrev pub finished : End → List ℕ → ℕ → Finish
-finished end output made = record { end = end; output = output; steps = made }
+abbrev pub finish_of : End → List ℕ → ℕ → Finish
+finish_of end output made = record { end = end; output = output; steps = made }
 
 -- how the run ends from a state, with a limit on steps, so many steps made and so much printed before, if fewer than
 -- that many steps lead there
 abbrev pub plain_by : ℕ → View → ℕ → Plain → ℕ → List ℕ → Option Finish
 plain_by zero v limit s made out = None
 plain_by (suc n) v limit s made out =
-    if is_over s.stage then Some (finished Returned out made) else
-    if made == limit then Some (finished StepLimit out made) else
+    if is_over s.stage then Some (finish_of Returned out made) else
+    if made == limit then Some (finish_of StepLimit out made) else
     plain_by n v limit (plain_step v s).state (made + 1) (out ++ (plain_step v s).printed)
 
 pub record PlainEnds (v : View) (limit : ℕ) (s : Plain) (made : ℕ) (out : List ℕ) (f : Finish) : Type 0 where

@@ -18,6 +18,6 @@ lowest_of place [] = None
 lowest_of place (x ∷ xs) = lower (place x) (lowest_of place xs)
 
 -- what a function gives for n numbers, from i on
-abbrev pub listed : {A : Type 0} → (ℕ → A) → ℕ → ℕ → List A
-listed f i zero = []
-listed f i (suc n) = f i ∷ listed f (i + 1) n
+abbrev pub tabulation : {A : Type 0} → (ℕ → A) → ℕ → ℕ → List A
+tabulation f i zero = []
+tabulation f i (suc n) = f i ∷ tabulation f (i + 1) n

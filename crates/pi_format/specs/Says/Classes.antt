@@ -11,7 +11,7 @@ use Rattle.pi_format.specs.Tables.{count_at, type_ids, class_defs, field_ids, me
 use Rattle.pi_format.specs.Rules.Entries.{list_at}
 use Rattle.pi_format.specs.Rules.Members.{member_entry}
 use Rattle.pi_format.specs.Rules.Classes.{class_entry}
-use Rattle.pi_format.specs.Rules.Lowest.{listed}
+use Rattle.pi_format.specs.Rules.Lowest.{tabulation}
 use Rattle.pi_format.specs.Rules.Rows.{MemberRow}
 use Rattle.pi_format.specs.Rules.ClassData.{class_flags, rows_of, methods_in, method_proto}
 use Rattle.pi_format.specs.Rules.Values.{EncodedValue, class_values}
@@ -91,7 +91,7 @@ class_desc n number i = record {
 
 -- the descriptors of all types, and all classes, in the order of the tables
 abbrev pub types_said : Named → List NameNo
-types_said n = listed (type_name n) 0 (count_at n.file type_ids)
+types_said n = tabulation (type_name n) 0 (count_at n.file type_ids)
 
 abbrev pub classes_said : Named → ℕ → List ClassDesc
-classes_said n number = listed (class_desc n number) 0 (count_at n.file class_defs)
+classes_said n number = tabulation (class_desc n number) 0 (count_at n.file class_defs)

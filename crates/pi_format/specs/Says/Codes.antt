@@ -3,7 +3,7 @@ use Rattle.std.specs.Prelude.{ℕ, ◌+◌, ◌==◌, List, [], ◌∷◌, ◌++
 use Rattle.pi_model.specs.declared.describe.Code.{Code}
 use Rattle.pi_model.specs.declared.describe.Line.{Line}
 use Rattle.pi_model.specs.declared.describe.Catch.{Catch}
-use Rattle.pi_format.specs.Rules.Lowest.{listed}
+use Rattle.pi_format.specs.Rules.Lowest.{tabulation}
 use Rattle.pi_format.specs.Rules.CodeItems.{Handler, HandlerList, TryRange, CodeHead, code_head, try_range, tries_at, lists_at, code_lists}
 use Rattle.pi_format.specs.Rules.Pieces.{Piece, What, Instruction, Payload, code_walk}
 use Rattle.pi_format.specs.Says.Names.{Named, type_name}
@@ -41,7 +41,7 @@ catches_at n at head lists k =
 -- the entries of all ranges, in the order of search
 abbrev pub catches_of : Named → ℕ → CodeHead → Option (List HandlerList) → List Catch
 catches_of n at head None = []
-catches_of n at head (Some lists) = flat_map (catches_at n at head lists) (listed (λ k. k) 0 head.tries)
+catches_of n at head (Some lists) = flat_map (catches_at n at head lists) (tabulation (λ k. k) 0 head.tries)
 
 -- the code of the code item at an offset
 unfoldable pub code_at : Named → ℕ → Code

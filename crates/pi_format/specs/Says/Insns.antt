@@ -10,7 +10,7 @@ use Rattle.pi_insn.specs.declared.raw.RawRegs.{RawRegs}
 use Rattle.pi_insn.specs.declared.raw.RawRegs.TheVariants.{Few, Run}
 use Rattle.pi_insn.specs.Numbers.{signed_number, word}
 use Rattle.pi_insn.specs.Payloads.{Data, PackedData, SparseData, ArrayData}
-use Rattle.pi_format.specs.Rules.Lowest.{listed}
+use Rattle.pi_format.specs.Rules.Lowest.{tabulation}
 use Rattle.pi_format.specs.Rules.Pieces.{Piece, payload_of}
 use Rattle.pi_format.specs.Says.Names.{Named, string_name, type_name, field_ref, method_ref}
 
@@ -26,7 +26,7 @@ target at dist = word_of (pos at +ℤ dist)
 -- the registers that an instruction names: the first so many of five, or so many in a row modulo 2^16
 abbrev pub registers : RawRegs → List ℕ
 registers (Few n regs) = take n regs
-registers (Run first n) = listed (λ r. r % 65536) first n
+registers (Run first n) = tabulation (λ r. r % 65536) first n
 
 -- the target of a case by the units of all targets
 abbrev pub case_target : ℕ → List ℕ → ℕ → ℕ
@@ -35,9 +35,9 @@ case_target at targets k = target at (signed_number 2147483648 (word targets (2 
 -- the cases of a switch: keys count from the first one up, or each stands by itself
 abbrev pub cases_of : ℕ → Option Data → List Case
 cases_of at (Some (PackedData first targets)) =
-    listed (λ k. record { key = word_of (first +ℤ pos k); to = case_target at targets k }) 0 (length targets / 2)
+    tabulation (λ k. record { key = word_of (first +ℤ pos k); to = case_target at targets k }) 0 (length targets / 2)
 cases_of at (Some (SparseData keys targets)) =
-    listed (λ k. record { key = word keys (2 * k); to = case_target at targets k }) 0 (length targets / 2)
+    tabulation (λ k. record { key = word keys (2 * k); to = case_target at targets k }) 0 (length targets / 2)
 cases_of at (Some (ArrayData width size items)) = []
 cases_of at None = []
 
@@ -57,7 +57,7 @@ width_of (Some (SparseData keys targets)) = 0
 width_of None = 0
 
 abbrev pub items_of : Option Data → List ℕ
-items_of (Some (ArrayData width size items)) = listed (item_of width items) 0 size
+items_of (Some (ArrayData width size items)) = tabulation (item_of width items) 0 size
 items_of (Some (PackedData first targets)) = []
 items_of (Some (SparseData keys targets)) = []
 items_of None = []

@@ -10,11 +10,11 @@ use Rattle.pi_format.specs.Tables.{count_at, string_ids, field_ids, method_ids}
 use Rattle.pi_format.specs.Rules.Entries.{list_at}
 use Rattle.pi_format.specs.Rules.Strings.{string_units, type_string}
 use Rattle.pi_format.specs.Rules.Members.{member_entry, proto_entry}
-use Rattle.pi_format.specs.Rules.Lowest.{listed}
+use Rattle.pi_format.specs.Rules.Lowest.{tabulation}
 
 -- the texts of all strings of a file, in their order; no two are the same where the rules hold
 abbrev pub texts_of : List ℕ → List (List ℕ)
-texts_of file = listed (string_units file) 0 (count_at file string_ids)
+texts_of file = tabulation (string_units file) 0 (count_at file string_ids)
 
 -- the texts that are no name yet
 abbrev pub new_names : List (List ℕ) → List (List ℕ) → List (List ℕ)

@@ -1,6 +1,6 @@
 use Rattle.std.proofs.Common.{◌≡◌, take}
-use Rattle.pi_bytes.specs.Mutf8.{spelled}
+use Rattle.pi_bytes.specs.Mutf8.{spellings}
 use Rattle.pi_bytes.proofs.mutf8.mutf8_of.Given as goal
 
 abbrev pub invariant-loop-unit : goal.invariant-loop-unit
-invariant-loop-unit l = l.bytes.items ≡ spelled (take l.unit-index l.units)
+invariant-loop-unit l = l.bytes.items ≡ spellings (take l.unit-index l.units)

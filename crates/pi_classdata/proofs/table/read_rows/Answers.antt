@@ -1,6 +1,6 @@
 use Rattle.std.proofs.Common.{◌≡◌, ℕ, ◌+◌, ◌-◌, ◌<◌, List, [], ◌∷◌, ◌++◌, Option, ap, ◌∙◌, arith}
 use Rattle.pi_format.specs.Tables.{count_at, class_defs}
-use Rattle.pi_format.specs.Rules.Lowest.{lower, lowest_from, listed}
+use Rattle.pi_format.specs.Rules.Lowest.{lower, lowest_from, tabulation}
 use Rattle.pi_format.specs.Rules.ClassData.{ClassRows, rows_of}
 use Rattle.pi_format.proofs.Loops.{lowest_goes, listed_goes}
 use Rattle.pi_classdata.proofs.Places.{data_place}
@@ -13,7 +13,7 @@ loop-i-init c =
     let all : n - 0 ≡ n = omega arith in
     record {
       lowest = ap (lowest_from (data_place file) 0) all;
-      so_far = ap (λ (xs : List ClassRows). xs ++ listed (rows_of file) 0 (n - 0)) c.new-classes.ensures.items ∙ ap (listed (rows_of file) 0) all;
+      so_far = ap (λ (xs : List ClassRows). xs ++ tabulation (rows_of file) 0 (n - 0)) c.new-classes.ensures.items ∙ ap (tabulation (rows_of file) 0) all;
     }
 
 pub loop-i-preserved : goal.loop-i-preserved
@@ -29,7 +29,7 @@ loop-i-preserved c =
           ∙ lowest_goes (data_place file) c.loop-i.broken i n lt
           ∙ c.loop-i.invariant.lowest;
       so_far =
-          ap (λ (xs : List ClassRows). xs ++ listed (rows_of file) (i + 1) (n - (i + 1)))
+          ap (λ (xs : List ClassRows). xs ++ tabulation (rows_of file) (i + 1) (n - (i + 1)))
           (c.in_ok-push.ensures.items ∙ ap (λ (rows : ClassRows). c.loop-i.classes.items ++ rows ∷ []) c.in_ok-place.ensures.rows)
           ∙ listed_goes (rows_of file) c.loop-i.classes.items i n lt
           ∙ c.loop-i.invariant.so_far;
