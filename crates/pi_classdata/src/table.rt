@@ -69,6 +69,7 @@ fn judged(alloc: Global, raw: &Raw<'_>, i: u32) -> Result<(Option<u32>, ClassRow
 }
 
 /// X18: the class data of each class holds. With the lowest place at which it is broken come the members of all classes.
+#[tactic(auto, using(pi_format::proofs::Loops::lowest_done, pi_format::proofs::Loops::listed_done))]
 pub fn read_rows(alloc: Global, raw: &Raw<'_>) -> Result<(Option<u32>, RowTable), AllocError>
     ensures broken { IfOk result (λ r. r.0 ≡ broken_class_data raw.now) }
     ensures rows { IfOk result (λ r. r.1 ≡ tabulation (rows_of raw.now) 0 (count_at raw.now class_defs)) }

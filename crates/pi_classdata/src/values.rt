@@ -211,6 +211,7 @@ fn judged(alloc: Global, raw: &Raw<'_>, rows: &ClassRows, i: u32) -> Result<Opti
 
 /// X19: the static values of each class hold, or else the lowest place at which they do not. The table has the members of
 /// all classes of the file.
+#[tactic(auto, using(pi_format::proofs::Loops::lowest_goes, pi_format::proofs::Loops::lowest_done))]
 pub fn values_rule(
     alloc: Global,
     raw: &Raw<'_>,

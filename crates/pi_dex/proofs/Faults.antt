@@ -46,7 +46,7 @@ classes_go file low i n lt =
     same_three _ _ _ _ _ _ (lowest_goes (class_place walk_place file) low.walk i n lt) (lowest_goes (class_place index_place file) low.index i n lt)
     (lowest_goes (class_place payload_place file) low.payload i n lt)
 
-classes_done : (file : List ℕ) (low : Faults) (i n : ℕ) → n ≤ i → both_faults low (faults_from file i (n - i)) ≡ low
+pub classes_done : (file : List ℕ) (low : Faults) (i n : ℕ) → n ≤ i → both_faults low (faults_from file i (n - i)) ≡ low
 classes_done file low i n le =
     same_three _ _ _ _ _ _ (lowest_done (class_place walk_place file) low.walk i n le) (lowest_done (class_place index_place file) low.index i n le)
     (lowest_done (class_place payload_place file) low.payload i n le)

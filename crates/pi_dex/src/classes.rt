@@ -216,6 +216,7 @@ fn class(
 }
 
 /// All classes, in the order of their definitions.
+#[tactic(auto, using(pi_format::proofs::Loops::listed_goes, pi_format::proofs::Loops::listed_done))]
 pub(crate) fn classes(
     alloc: Global,
     names: &Named<'_>,
@@ -235,6 +236,7 @@ pub(crate) fn classes(
 }
 
 /// The descriptors of all types, in the order of their table.
+#[tactic(auto, using(pi_format::proofs::Loops::listed_goes, pi_format::proofs::Loops::listed_done))]
 pub(crate) fn types(alloc: Global, names: &Named<'_>) -> Result<Names, AllocError>
     ensures { IfOk result (λ types. types ≡ types_said names.now) }
 {

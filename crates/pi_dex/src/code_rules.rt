@@ -33,6 +33,7 @@ fn broken_item(alloc: Global, raw: &Raw<'_>, row: &MemberRow) -> Result<Option<u
 }
 
 /// The lowest of methods one after the other.
+#[tactic(auto, using(crate::proofs::Lowest::items_go, crate::proofs::Lowest::items_end))]
 fn lowest_item(alloc: Global, raw: &Raw<'_>, rows: &[MemberRow]) -> Result<Option<u32>, AllocError>
     requires { All (IsMethod raw.now) rows.now }
     ensures { IfOk result (λ r. r ≡ lowest_of (code_place raw.now) rows.now) }
@@ -60,6 +61,7 @@ fn lowest_in_class(
 }
 
 /// X20: the code item of each method that has code holds.
+#[tactic(auto, using(pi_format::proofs::Loops::lowest_goes, pi_format::proofs::Loops::lowest_done))]
 pub(crate) fn code_rule(
     alloc: Global,
     raw: &Raw<'_>,

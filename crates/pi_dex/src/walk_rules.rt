@@ -78,6 +78,7 @@ fn item_faults(alloc: Global, raw: &Raw<'_>, row: &MemberRow) -> Result<Faults, 
 }
 
 /// The faults of methods one after the other.
+#[tactic(auto, using(crate::proofs::Faults::faults_go, crate::proofs::Faults::faults_end))]
 fn all_faults(alloc: Global, raw: &Raw<'_>, rows: &[MemberRow]) -> Result<Faults, AllocError>
     requires { All (CodeLies raw.now) rows.now }
     ensures { IfOk result (λ f. f ≡ faults_of raw.now rows.now) }
@@ -101,6 +102,7 @@ fn class_faults(alloc: Global, raw: &Raw<'_>, rows: &ClassRows) -> Result<Faults
 }
 
 /// X21 to X23: from unit 0 on there are instructions and payloads, indices are in range, and payloads fit.
+#[tactic(auto, using(crate::proofs::Faults::classes_go, crate::proofs::Faults::classes_done))]
 pub(crate) fn walk_rules(
     alloc: Global,
     raw: &Raw<'_>,

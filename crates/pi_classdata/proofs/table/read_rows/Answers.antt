@@ -1,8 +1,8 @@
-use Rattle.std.proofs.Common.{◌≡◌, ℕ, ◌+◌, ◌-◌, ◌<◌, ◌≤◌, List, [], ◌∷◌, ◌++◌, Option, sym, ap, ◌∙◌, arith}
+use Rattle.std.proofs.Common.{◌≡◌, ℕ, ◌+◌, ◌-◌, ◌<◌, List, [], ◌∷◌, ◌++◌, Option, ap, ◌∙◌, arith}
 use Rattle.pi_format.specs.Tables.{count_at, class_defs}
 use Rattle.pi_format.specs.Rules.Lowest.{lower, lowest_from, tabulation}
 use Rattle.pi_format.specs.Rules.ClassData.{ClassRows, rows_of}
-use Rattle.pi_format.proofs.Loops.{lowest_goes, lowest_done, listed_goes, listed_done}
+use Rattle.pi_format.proofs.Loops.{lowest_goes, listed_goes}
 use Rattle.pi_classdata.proofs.Places.{data_place}
 use Rattle.pi_classdata.proofs.table.read_rows.Goals as goal
 
@@ -34,17 +34,3 @@ loop-i-preserved c =
           ∙ listed_goes (rows_of file) c.loop-i.classes.items i n lt
           ∙ c.loop-i.invariant.so_far;
     }
-
-pub returns-clause-broken : goal.returns-clause-broken
-returns-clause-broken c =
-    let file = c.args.raw.now in
-    let n : ℕ = count_at file class_defs in
-    let le : n ≤ c.loop-i.i = omega (arith, c.class_defs-i-end.ensures) in
-    sym (lowest_done (data_place file) c.loop-i.broken c.loop-i.i n le) ∙ c.loop-i.invariant.lowest
-
-pub returns-clause-rows : goal.returns-clause-rows
-returns-clause-rows c =
-    let file = c.args.raw.now in
-    let n : ℕ = count_at file class_defs in
-    let le : n ≤ c.loop-i.i = omega (arith, c.class_defs-i-end.ensures) in
-    sym (listed_done (rows_of file) c.loop-i.classes.items c.loop-i.i n le) ∙ c.loop-i.invariant.so_far

@@ -1,8 +1,8 @@
-use Rattle.std.proofs.Common.{◌≡◌, ℕ, ◌+◌, ◌-◌, ◌<◌, ◌≤◌, length, Option, sym, ap, ◌∙◌, arith}
+use Rattle.std.proofs.Common.{◌≡◌, ℕ, ◌+◌, ◌-◌, ◌<◌, length, Option, ap, ◌∙◌, arith}
 use Rattle.pi_format.specs.Tables.{count_at, class_defs}
 use Rattle.pi_format.specs.Rules.Lowest.{lower, lowest_from}
 use Rattle.pi_format.specs.Rules.ClassData.{rows_of}
-use Rattle.pi_format.proofs.Loops.{lowest_goes, lowest_done, listed_length}
+use Rattle.pi_format.proofs.Loops.{lowest_goes, listed_length}
 use Rattle.pi_classdata.proofs.Places.{values_place}
 use Rattle.pi_classdata.proofs.values.values_rule.Goals as goal
 
@@ -30,10 +30,3 @@ loop-i-preserved c =
     (c.lower-broken.ensures ∙ ap (lower c.loop-i.broken) c.in_ok-judged.ensures)
     ∙ lowest_goes (values_place file) c.loop-i.broken i n lt
     ∙ c.loop-i.invariant
-
-pub returns : goal.returns
-returns c =
-    let file = c.args.raw.now in
-    let n : ℕ = count_at file class_defs in
-    let le : n ≤ c.loop-i.i = omega (arith, c.class_defs-i-end.ensures) in
-    sym (lowest_done (values_place file) c.loop-i.broken c.loop-i.i n le) ∙ c.loop-i.invariant

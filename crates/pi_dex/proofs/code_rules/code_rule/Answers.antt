@@ -1,21 +1,11 @@
-use Rattle.std.proofs.Common.{◌≡◌, ℕ, ◌+◌, ◌-◌, ◌<◌, ◌≤◌, Option, sym, ap, ◌∙◌, arith}
+use Rattle.std.proofs.Common.{ℕ, ◌+◌, ◌-◌, ◌<◌, Option, ap, ◌∙◌, arith}
 use Rattle.pi_format.specs.Tables.{count_at, class_defs}
 use Rattle.pi_format.specs.Rules.Lowest.{lower, lowest_from, lowest_of}
 use Rattle.pi_format.specs.Rules.ClassData.{ClassRows, methods_in}
 use Rattle.pi_dex.specs.Judged.{code_place}
-use Rattle.pi_format.proofs.Loops.{lowest_goes, lowest_done}
+use Rattle.pi_format.proofs.Loops.{lowest_goes}
 use Rattle.pi_dex.proofs.Faults.{class_place}
 use Rattle.pi_dex.proofs.code_rules.code_rule.Goals as goal
-
-pub loop-i-init : goal.loop-i-init
-loop-i-init c =
-    let file = c.args.raw.now in
-    let n : ℕ = count_at file class_defs in
-    let all : n - 0 ≡ n = omega arith in
-    ap (lowest_from (class_place code_place file) 0) all
-
-pub members-requires-clause-counted : goal.members-requires-clause-counted
-members-requires-clause-counted c = omega (arith, c.class_defs-i-end.ensures)
 
 pub loop-i-preserved : goal.loop-i-preserved
 loop-i-preserved c =
@@ -27,10 +17,3 @@ loop-i-preserved c =
     (c.lower-lowest.ensures ∙ ap (lower c.loop-i.lowest) (c.in_ok-here.ensures ∙ ap (λ (r : ClassRows). lowest_of (code_place file) (methods_in r)) c.members.ensures.rows))
     ∙ lowest_goes (class_place code_place file) c.loop-i.lowest i n lt
     ∙ c.loop-i.invariant
-
-pub returns : goal.returns
-returns c =
-    let file = c.args.raw.now in
-    let n : ℕ = count_at file class_defs in
-    let le : n ≤ c.loop-i.i = omega (arith, c.class_defs-i-end.ensures) in
-    sym (lowest_done (class_place code_place file) c.loop-i.lowest c.loop-i.i n le) ∙ c.loop-i.invariant

@@ -1,4 +1,4 @@
-use Rattle.std.proofs.Common.{◌≡◌, ℕ, ◌+◌, ◌-◌, ◌<◌, ap, ◌∙◌, arith}
+use Rattle.std.proofs.Common.{ℕ, ◌+◌, ◌-◌, ◌<◌, ap, ◌∙◌, arith}
 use Rattle.pi_format.specs.Tables.{count_at, class_defs}
 use Rattle.pi_format.specs.Rules.ClassData.{ClassRows, methods_in}
 use Rattle.pi_dex.specs.declared.walk_rules.Faults.{Faults}
@@ -7,9 +7,6 @@ use Rattle.pi_dex.proofs.Codes.{lists_lie}
 use Rattle.pi_dex.proofs.Faults.{faults_from, classes_go, classes_found}
 use Rattle.pi_dex.proofs.walk_rules.walk_rules.Goals as goal
 
-pub members-requires-clause-counted : goal.members-requires-clause-counted
-members-requires-clause-counted c = omega (arith, c.class_defs-i-end.ensures)
-
 pub class_faults-requires-clause-directs : goal.class_faults-requires-clause-directs
 class_faults-requires-clause-directs c =
     (lists_lie c.args.raw.now c.loop-i.i c.members.result.now c.members.ensures.rows c.requires.code (omega (arith, c.class_defs-i-end.ensures))).0
@@ -17,13 +14,6 @@ class_faults-requires-clause-directs c =
 pub class_faults-requires-clause-virtuals : goal.class_faults-requires-clause-virtuals
 class_faults-requires-clause-virtuals c =
     (lists_lie c.args.raw.now c.loop-i.i c.members.result.now c.members.ensures.rows c.requires.code (omega (arith, c.class_defs-i-end.ensures))).1
-
-pub loop-i-init : goal.loop-i-init
-loop-i-init c =
-    let file = c.args.raw.now in
-    let n : ℕ = count_at file class_defs in
-    let all : n - 0 ≡ n = omega arith in
-    ap (λ (f : Faults). both_faults f (faults_from file 0 (n - 0))) c.none-lowest.ensures ∙ ap (faults_from file 0) all
 
 pub loop-i-preserved : goal.loop-i-preserved
 loop-i-preserved c =
