@@ -10,7 +10,8 @@ use Rattle.pi_machine.specs.Start.{main_of}
 use Rattle.pi_duty.specs.Small.{is_small}
 use Rattle.pi_duty.specs.Words.{LazyWords}
 use Rattle.pi_duty.specs.Command.{Command, Lazy, only_reads, writes_nothing}
-use Rattle.pi_duty.specs.Duty.{Owed, RunOwes, ProgramOwes, FileOwes, LengthOwes, LazyOwes, CommandOwes, WordsOwe, ReadersWriteNothing, most_bytes}
+use Rattle.pi_bytes.specs.Numbers.{most_bytes}
+use Rattle.pi_duty.specs.Duty.{Owed, RunOwes, ProgramOwes, FileOwes, LengthOwes, LazyOwes, CommandOwes, WordsOwe, ReadersWriteNothing}
 
 run_writes : (p : Program) (steps : ℕ) (main : Option ℕ) (o : Owed) → RunOwes p steps main o → o.writes ≡ []
 run_writes p steps None o h = ap (λ (a : Owed). a.writes) h

@@ -11,7 +11,8 @@ use Rattle.pi_duty.specs.Small.{is_small}
 use Rattle.pi_base.specs.Views.{Contents}
 use Rattle.pi_duty.specs.Words.{LazyWords}
 use Rattle.pi_duty.specs.Command.{Command, Lazy, command_of}
-use Rattle.pi_duty.specs.Duty.{Owed, RunOwes, ProgramOwes, FileOwes, LengthOwes, LazyOwes, CommandOwes, WordsOwe, OwesOnce, owed_of_run, lazy_setting, most_bytes}
+use Rattle.pi_bytes.specs.Numbers.{most_bytes}
+use Rattle.pi_duty.specs.Duty.{Owed, RunOwes, ProgramOwes, FileOwes, LengthOwes, LazyOwes, CommandOwes, WordsOwe, OwesOnce, owed_of_run, lazy_setting}
 
 run_once : (p : Program) (steps : ℕ) (main : Option ℕ) (a b : Owed) → RunOwes p steps main a → RunOwes p steps main b → a ≡ b
 run_once p steps None a b x y = x ∙ sym y

@@ -31,10 +31,6 @@ pub record Owed : Type 0 where
 abbrev pub refusal : Status → List ℕ → Owed
 refusal status line = record { status = status; output = []; lines = line; writes = [] }
 
--- the longest file that is read
-abbrev pub most_bytes : ℕ
-most_bytes = most_bytes
-
 -- the limits of a lazy run: no class is held, and heap bytes and frame words are limited
 abbrev pub lazy_setting : ℕ → Setting
 lazy_setting steps = record { held = []; imaged = []; steps = steps; heap = 67108864; frames = 1048576 }

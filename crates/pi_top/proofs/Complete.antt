@@ -17,7 +17,8 @@ use Rattle.pi_duty.specs.Small.{is_small}
 use Rattle.pi_duty.specs.Shape.{small_chain, HasSmallClass, SmallHasClass}
 use Rattle.pi_duty.specs.Words.{LazyWords}
 use Rattle.pi_duty.specs.Command.{Command, Lazy}
-use Rattle.pi_duty.specs.Duty.{Owed, RunOwes, ProgramOwes, FileOwes, LengthOwes, LazyOwes, WordsOwe, owed_of_run, end_status, lazy_setting, most_bytes}
+use Rattle.pi_bytes.specs.Numbers.{most_bytes}
+use Rattle.pi_duty.specs.Duty.{Owed, RunOwes, ProgramOwes, FileOwes, LengthOwes, LazyOwes, WordsOwe, owed_of_run, end_status, lazy_setting}
 use Rattle.pi_top.specs.declared.plain.run.RunEnd.TheVariants.{Returned, Limited, OutFault}
 use Rattle.pi_top.specs.declared.outcome.Outcome.{Outcome}
 use Rattle.pi_top.specs.declared.outcome.Outcome.TheVariants as outcome

@@ -25,7 +25,8 @@ use Rattle.pi_machine.specs.Ends.{End, Finish, EndsWith}
 use Rattle.pi_duty.specs.Words.{LazyWords}
 use Rattle.pi_duty.specs.Command.{Command, Lazy}
 use Rattle.pi_duty.specs.Lines.{usage_line, missing_line, dex_line, made_line, too_large_line, not_built_line}
-use Rattle.pi_duty.specs.Duty.{Owed, RunOwes, ProgramOwes, FileOwes, LengthOwes, LazyOwes, owed_of_run, end_status, end_lines, lazy_setting, most_bytes, refusal}
+use Rattle.pi_bytes.specs.Numbers.{most_bytes}
+use Rattle.pi_duty.specs.Duty.{Owed, RunOwes, ProgramOwes, FileOwes, LengthOwes, LazyOwes, owed_of_run, end_status, end_lines, lazy_setting, refusal}
 use Rattle.pi_top.specs.declared.plain.run.RunEnd.{RunEnd}
 use Rattle.pi_top.specs.declared.plain.run.RunEnd.TheVariants.{Returned, Limited, OutFault}
 use Rattle.pi_top.specs.declared.file.fault.FileFault.{FileFault}

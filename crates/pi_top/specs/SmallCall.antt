@@ -13,7 +13,8 @@ use Rattle.pi_machine.specs.Ends.{Finish, EndsWith}
 use Rattle.pi_duty.specs.Small.{is_small}
 use Rattle.pi_duty.specs.Words.{LazyWords}
 use Rattle.pi_duty.specs.Command.{Command, Lazy}
-use Rattle.pi_duty.specs.Duty.{end_status, lazy_setting, most_bytes}
+use Rattle.pi_bytes.specs.Numbers.{most_bytes}
+use Rattle.pi_duty.specs.Duty.{end_status, lazy_setting}
 use Rattle.pi_top.specs.Statuses.{is_status}
 
 -- the run of a program for the main class of a descriptor ends so, under the limits of a lazy run
