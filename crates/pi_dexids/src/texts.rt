@@ -93,12 +93,7 @@ fn counts(file: &[u8], i: usize, n: usize) -> bool
 
 /// Whether a string has these units. It is read only where it has as many of them.
 #[tactic(auto, using(crate::proofs::Heads::other_length))]
-pub fn spells(
-    alloc: Global,
-    file: &[u8],
-    i: usize,
-    wanted: &[u16],
-) -> Result<bool, AllocError>
+pub fn spells(alloc: Global, file: &[u8], i: usize, wanted: &[u16]) -> Result<bool, AllocError>
     requires tables { HasTables file.now }
     requires counted { i < count_at file.now string_ids }
     requires some { 0 < length wanted.now }

@@ -42,8 +42,12 @@ same_bytes file s cs kept lt ascii = ap (same_text cs) (spelled_so file s kept l
 pub known_by_bytes : (file : List ℕ) (i : ℕ) → broken_strings file ≡ None → i < count_at file string_ids
     → known_text (string_bytes file i) ≡ known_text (string_units file i)
 known_by_bytes file i texts lt =
-    rw (same_bytes file i (codes "<init>") texts lt refl, same_bytes file i (codes "<clinit>") texts lt refl,
-    same_bytes file i (codes "Ljava/lang/String;") texts lt refl, same_bytes file i (codes "Ljava/lang/Class;") texts lt refl) refl
+    rw (
+      same_bytes file i (codes "<init>") texts lt refl,
+      same_bytes file i (codes "<clinit>") texts lt refl,
+      same_bytes file i (codes "Ljava/lang/String;") texts lt refl,
+      same_bytes file i (codes "Ljava/lang/Class;") texts lt refl,
+    ) refl
 
 -- a text of more units is none of these
 other_text : (cs us : List ℕ) → length cs ≤ 18 → 18 < length us → same_text cs us ≡ false
@@ -52,5 +56,9 @@ other_text cs us few long = other_length cs us (λ e. absurd (omega (arith, e)))
 pub long_text : (us : List ℕ) → 18 < length us
     → record { is_constructor = false; is_initialiser = false; is_string_type = false; is_class_type = false } ≡ known_text us
 long_text us long =
-    rw (other_text (codes "<init>") us (omega arith) long, other_text (codes "<clinit>") us (omega arith) long,
-    other_text (codes "Ljava/lang/String;") us (omega arith) long, other_text (codes "Ljava/lang/Class;") us (omega arith) long) refl
+    rw (
+      other_text (codes "<init>") us (omega arith) long,
+      other_text (codes "<clinit>") us (omega arith) long,
+      other_text (codes "Ljava/lang/String;") us (omega arith) long,
+      other_text (codes "Ljava/lang/Class;") us (omega arith) long,
+    ) refl

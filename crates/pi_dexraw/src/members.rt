@@ -34,9 +34,10 @@ fn rises(file: &[u8], table: usize, i: usize) -> bool
         return true;
     }
     let (before, next) = (member_at(file, table, i - 1), member_at(file, table, i));
+    let by_class = before.class.cmp(&next.class);
     let by_name = before.name.cmp(&next.name);
     let by_kind = before.kind.cmp(&next.kind);
-    before.class.cmp(&next.class).then(by_name.then(by_kind)).is_lt()
+    by_class.then(by_name.then(by_kind)).is_lt()
 }
 
 /// Whether a string is the name of a member.

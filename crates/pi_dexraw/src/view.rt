@@ -15,7 +15,8 @@ ghost use Rattle.pi_format.specs.Rules.ClassData.{class_flags, class_data_at, cl
 use crate::raw::Raw;
 use crate::type_lists::list;
 use pi_dexids::entries::{
-    ClassDef, FIELD_IDS, METHOD_IDS, Member, Proto, class_def_at, member_at, proto_at, string_of_type,
+    ClassDef, FIELD_IDS, METHOD_IDS, Member, Proto, class_def_at, member_at, proto_at,
+    string_of_type,
 };
 use std::alloc::{AllocError, Global};
 

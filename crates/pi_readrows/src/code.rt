@@ -4,11 +4,11 @@ ghost use Rattle.pi_bytes.specs.Numbers.{most_bytes, word_end};
 ghost use Rattle.pi_format.specs.Rules.CodeItems.{code_lies};
 
 use crate::said::add_code;
+use pi_bytes::numbers::MOST_BYTES;
 use pi_codeitem::{
     Piece, broken_index, broken_payload, handlers, head, holds, lies, lists_at, ranges_hold,
     try_range, units, walk,
 };
-use pi_bytes::numbers::MOST_BYTES;
 use pi_rows::fault::Fault;
 use pi_rows::told::Told;
 use pi_rows::words::numbers_of;

@@ -78,12 +78,7 @@ fn add_rows(told: &mut Told, list: &str, rows: &[MemberRow]) -> Result<(), Fault
 }
 
 /// Adds the values of each class, by the table of its members.
-fn add_values(
-    told: &mut Told,
-    alloc: Global,
-    raw: &Raw<'_>,
-    table: &RowTable,
-) -> Result<(), Fault>
+fn add_values(told: &mut Told, alloc: Global, raw: &Raw<'_>, table: &RowTable) -> Result<(), Fault>
     requires { table.now ≡ tabulation (rows_of raw.now) 0 (count_at raw.now class_defs) }
 {
     for i in 0..raw.class_defs() {
