@@ -10,7 +10,6 @@ use Rattle.pi_format.specs.Tables.{count_at, string_ids}
 use Rattle.pi_format.specs.Rules.Strings.{string_units, string_bytes, broken_strings}
 use Rattle.pi_format.proofs.Held.{both, string_there, bytes_spell}
 use Rattle.pi_dexids.proofs.Heads.{other_length}
-use Rattle.pi_dexraw.specs.declared.known.Known.{Known}
 use Rattle.pi_dexraw.specs.Whole.{known_text}
 
 abbrev is_ascii : ℕ → Bool

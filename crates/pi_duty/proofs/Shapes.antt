@@ -1,9 +1,8 @@
 -- A small program that a file says behind the first file has the shape that upper crates rely on.
-use Rattle.std.proofs.Common.{◌≡◌, inl, inr, ℕ, zero, suc, ◌+◌, ◌-◌, ◌<◌, ◌≤◌, ◌==◌, ◌&&◌, ◌++◌, List, [], ◌∷◌, length, map, Option, Some, None, Bool, true, false, if◌then◌else◌, refl, ap, sym, ◌∙◌, subst, arith}
+use Rattle.std.proofs.Common.{◌≡◌, inl, inr, ℕ, ◌+◌, ◌-◌, ◌<◌, ◌≤◌, ◌==◌, ◌&&◌, ◌++◌, List, [], ◌∷◌, length, Option, Some, None, Bool, true, refl, ap, sym, ◌∙◌, subst, arith}
 use Rattle.std.specs.Prelude.{nat_lt, nat_le, not, slice_index}
 use Rattle.std.specs.List.{list_all, All}
 use Rattle.std.proofs.lemmas.Bool.Decides.{nat_tests}
-use Rattle.std.proofs.lemmas.List.{get_or-drop}
 use Rattle.pi_model.specs.declared.numbers.NameNo.{NameNo}
 use Rattle.pi_model.specs.declared.insn.Insn.{Insn}
 use Rattle.pi_model.specs.declared.insn.Insn.TheVariants.{Sget, Sput, Invoke}
@@ -19,17 +18,12 @@ use Rattle.pi_model.specs.Search.{same_names}
 use Rattle.pi_model.specs.Texts.{same_text}
 use Rattle.pi_model.specs.Valid.{FitsBehind, IsProgram}
 use Rattle.pi_model.proofs.Kept.{kept_at_first, kept_behind}
-use Rattle.pi_bytes.specs.Numbers.{half_at, most_bytes}
+use Rattle.pi_bytes.specs.Numbers.{most_bytes}
 use Rattle.pi_format.specs.Core.{core_names, core_types, core_classes, core_program, object_class, out_class, object_name, out_name, int_name, void_name, strings_name, main_name, clinit_name}
-use Rattle.pi_format.specs.Tables.{count_at, class_defs}
-use Rattle.pi_format.specs.Rules.Lowest.{tabulation}
-use Rattle.pi_format.specs.Rules.Rows.{MemberRow}
-use Rattle.pi_format.specs.Rules.ClassData.{rows_of, methods_in}
 use Rattle.pi_format.specs.Rules.{broken_rule}
 use Rattle.pi_format.specs.Says.{HasRoom, SaysNext, named_file, with_said}
-use Rattle.pi_format.specs.Says.Names.{Named, new_names, texts_of}
-use Rattle.pi_format.specs.Says.Classes.{types_said, classes_said, class_desc, method_desc}
-use Rattle.pi_format.specs.Says.Codes.{code_at}
+use Rattle.pi_format.specs.Says.Names.{new_names, texts_of}
+use Rattle.pi_format.specs.Says.Classes.{types_said, classes_said}
 use Rattle.pi_format.proofs.Every.{all_first}
 use Rattle.pi_machine.proofs.Truths.{both, either}
 use Rattle.pi_duty.specs.Small.{is_plain_text, has_no_value, field_fits, line_fits, insn_units, lies, ends_in_return, is_empty, code_fits, method_fits, main_fits, clinit_fits, methods_fit, parent_fits, class_fits, has_text, one_fits, is_small}

@@ -1,13 +1,10 @@
 -- What holds of a small program that files say: its one class fits, each instruction begins where the one before it
 -- ends, the numbers of registers fit their type, no field has a value of its own, and the class is of the second file
 -- and implements nothing.
-use Rattle.std.specs.Prelude.{◌≡◌, ℕ, ◌+◌, ◌<◌, ◌≤◌, ◌==◌, ◌&&◌, ◌++◌, nat_lt, length, slice_index, List, [], ◌∷◌, Option, Some, None, Bool, true, false}
+use Rattle.std.specs.Prelude.{◌≡◌, ℕ, ◌<◌, ◌≤◌, ◌++◌, length, slice_index, List, [], ◌∷◌, None, true}
 use Rattle.std.specs.List.{list_all}
 use Rattle.pi_model.specs.declared.numbers.NameNo.{NameNo}
-use Rattle.pi_model.specs.declared.describe.Line.{Line}
-use Rattle.pi_model.specs.declared.describe.Code.{Code}
 use Rattle.pi_model.specs.declared.describe.ClassDesc.{ClassDesc}
-use Rattle.pi_model.specs.declared.describe.MethodDesc.{MethodDesc}
 use Rattle.pi_model.specs.Distinct.{all_distinct}
 use Rattle.pi_model.specs.Program.{Program, with_file}
 use Rattle.pi_model.specs.Texts.{same_text}

@@ -1,4 +1,3 @@
-use Rattle.std.proofs.Common.{◌∙◌}
 use Rattle.pi_dexraw.specs.Whole.{known_of}
 use Rattle.pi_dexids.proofs.Lists.{facts_pushed}
 use Rattle.pi_dexraw.proofs.known.known_texts.Goals as goal
