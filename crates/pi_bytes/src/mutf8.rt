@@ -39,9 +39,10 @@ fn three_of(a: u8, b: u8, c: u8) -> Option<(u16, usize)>
 }
 
 /// The unit whose spelling the bytes begin with, and how many bytes it takes.
-fn unit_of(bytes: &[u8]) -> Option<(u16, usize)>
+pub fn unit_of(bytes: &[u8]) -> Option<(u16, usize)>
     ensures value { result ≡ unit_at bytes.now }
     ensures within { IfSome result (λ x. x.1 ≤ length bytes.now) }
+    ensures few { IfSome result (λ x. x.1 ≤ 3) }
 {
     match bytes {
         [a, ..] if 0 < *a && *a < 128 => Some((*a as u16, 1)),
@@ -52,7 +53,7 @@ fn unit_of(bytes: &[u8]) -> Option<(u16, usize)>
 }
 
 /// Whether the bytes begin with the 0 behind a text.
-fn ends_text(bytes: &[u8]) -> bool
+pub fn ends_text(bytes: &[u8]) -> bool
     ensures { result ≡ ends_text bytes.now }
 {
     matches!(bytes, [0, ..])

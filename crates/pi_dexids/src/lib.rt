@@ -15,4 +15,3 @@ pub mod tail;
 pub mod tails;
 pub mod texts;
 pub mod types;
-mod unit;

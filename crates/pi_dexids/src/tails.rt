@@ -11,7 +11,7 @@ ghost use Rattle.pi_dexids.specs.Tables.{HasTables};
 use crate::entries::text_place;
 use crate::tail::{Tail, no_unit, with_unit};
 use crate::texts::head;
-use crate::unit::{ends_text, unit_of};
+use pi_bytes::mutf8::{ends_text, unit_of};
 use std::alloc::{AllocError, Global};
 
 /// What a list has at an offset.
