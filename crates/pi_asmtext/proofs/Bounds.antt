@@ -1,6 +1,6 @@
 -- Columns behind tokens are at most the length of the text and one.
 use Rattle.std.proofs.Common.{◌≡◌, ℕ, zero, suc, pred, ◌+◌, ◌-◌, ◌/◌, ◌%◌, ◌<◌, ◌≤◌, Bool, true, false, inl, inr, List, [], ◌∷◌, ◌++◌, length, take, refl, subst, arith, length-take, add-one}
-use Rattle.std.specs.Prelude.{◌==◌, cond, if◌then◌else◌, nat_lt}
+use Rattle.std.specs.Prelude.{◌==◌, cond, if◌then◌else◌, nat_lt, ◌^◌}
 use Rattle.std.specs.Prelude.{not, count_by}
 use Rattle.std.proofs.lemmas.List.Recursion.{is_count_by}
 use Rattle.std.specs.Char.Escape.{encode_utf16}
@@ -92,7 +92,7 @@ short (c ∷ cs) = let P : ℕ → Type 0 = λ n. Short n (lines (c ∷ cs)) in 
     by true h = (omega arith, longer (lines cs) (length cs) h)
     by false h = before_short c (lines cs) (length cs) h
 
-small : (ts : List Token) (n : ℕ) → n < 4294967296 → EndWithin n ts → Small ts
+small : (ts : List Token) (n : ℕ) → n < 2 ^ 32 → EndWithin n ts → Small ts
 small [] n lt h = tt
 small (t ∷ ts) n lt h = (let a = h.0 in omega arith, small ts n lt h.1)
 
@@ -100,7 +100,7 @@ nonempty_line_small : (number : ℕ) (ts : List Token) (ls : List AsmLine) → S
 nonempty_line_small number [] ls h i = i
 nonempty_line_small number (t ∷ ts) ls h i = (h, i)
 
-lines_from_small : (number n : ℕ) (ls : List (List ℕ)) → n + 1 < 4294967296 → Short n ls → AllSmall (lines_from number ls)
+lines_from_small : (number n : ℕ) (ls : List (List ℕ)) → n + 1 < 2 ^ 32 → Short n ls → AllSmall (lines_from number ls)
 lines_from_small number n [] lt h = tt
 lines_from_small number n (l ∷ ls) lt h =
     nonempty_line_small number (tokens_from 1 0 l) (lines_from (number + 1) ls)
@@ -108,7 +108,7 @@ lines_from_small number n (l ∷ ls) lt h =
     (lines_from_small (number + 1) n ls lt h.1)
 
 -- the columns of a text are numbers of 32 bits
-pub text_small : (cs : List ℕ) → length cs + 1 < 4294967296 → AllSmall (lines_of cs)
+pub text_small : (cs : List ℕ) → length cs + 1 < 2 ^ 32 → AllSmall (lines_of cs)
 text_small cs lt = lines_from_small 1 (length cs) (lines cs) lt (short cs)
 
 counts_by : (t : Bool) (n : ℕ) → (if t then n else n + 1) ≡ cond (not t) (1 + n) n

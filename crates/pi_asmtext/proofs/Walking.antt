@@ -1,6 +1,6 @@
 -- Each token and each line's end takes the walk over a text one step on.
 use Rattle.std.proofs.Common.{◌≡◌, ℕ, ◌<◌, ◌+◌, List, [], ◌∷◌, Option, Result, Ok, length, get_or, drop, sym, ap, subst, ◌∙◌, drop-cons, add-one, suc}
-use Rattle.std.specs.Prelude.{option_map}
+use Rattle.std.specs.Prelude.{option_map, ◌^◌}
 use Rattle.pi_asmtext.specs.Patterns.{Pattern}
 use Rattle.pi_asmtext.specs.Symbols.{Class}
 use Rattle.pi_asmtext.specs.Rest.{rest_of}
@@ -32,7 +32,7 @@ pub end_step : (s : State) (o : Option State) (number column : ℕ) → end_of s
 end_step s o number column e = ap (λ p. on_left p (number, column) (λ q. Ok q)) (ends_right s ∙ ap (option_map rest_of) e)
 
 pub small_rest : (ts : List Token) (i : ℕ) (t : Token) → i < length ts → t ≡ get_or ts i t → Small (drop i ts)
-    → (t.column + width t.units < 4294967296) × Small (drop (i + 1) ts)
+    → (t.column + width t.units < 2 ^ 32) × Small (drop (i + 1) ts)
 small_rest ts i t lt is h = let P : List Token → Type 0 = λ us. Small us in subst P (item_first ts i t lt is) h
 
 pub all_rest : (ls : List AsmLine) (i : ℕ) (l : AsmLine) → i < length ls → l ≡ get_or ls i l → AllSmall (drop i ls)

@@ -1,5 +1,5 @@
 -- Reading the symbols of a text one after the other: what is left of the grammar, or the place of the first that is wrong.
-use Rattle.std.specs.Prelude.{ℕ, ◌+◌, ◌<◌, List, [], ◌∷◌, Option, Some, None, Result, Ok, Err}
+use Rattle.std.specs.Prelude.{ℕ, ◌+◌, ◌<◌, List, [], ◌∷◌, Option, Some, None, Result, Ok, Err, ◌^◌}
 use Rattle.pi_asmtext.specs.declared.file.Token.{Token}
 use Rattle.pi_asmtext.specs.declared.file.AsmLine.{AsmLine}
 use Rattle.pi_asmtext.specs.declared.state.State.{State}
@@ -31,7 +31,7 @@ line_answer number (Err column) = Err (number, column)
 -- columns behind tokens are numbers of 32 bits
 abbrev pub Small : List Token → Type 0
 Small [] = Unit {0}
-Small (t ∷ ts) = (t.column + width t.units < 4294967296) × Small ts
+Small (t ∷ ts) = (t.column + width t.units < 2 ^ 32) × Small ts
 
 abbrev pub AllSmall : List AsmLine → Type 0
 AllSmall [] = Unit {0}

@@ -1,6 +1,6 @@
 // Reads a text: cuts it into lines of tokens, and walks over them as the grammar wants.
 
-ghost use Rattle.std.specs.Prelude.{◌≡◌, ◌+◌, ◌<◌, not, length, count_by, IfOk, IfErr};
+ghost use Rattle.std.specs.Prelude.{◌≡◌, ◌+◌, ◌<◌, not, length, count_by, IfOk, IfErr, ◌^◌};
 ghost use Rattle.std.specs.Str.{chars};
 ghost use Rattle.pi_asmtext.specs.Grammar.{text as text_pattern, IsText};
 ghost use Rattle.pi_asmtext.specs.Tokens.{lines_of};
@@ -29,7 +29,7 @@ fn width(units: &[u16]) -> usize
 }
 
 fn column_behind(token: &Token) -> u32
-    requires { token.now.column + width token.now.units < 4294967296 }
+    requires { token.now.column + width token.now.units < 2 ^ 32 }
     ensures { result ≡ token.now.column + width token.now.units }
 {
     token.column + width(token.units.as_slice()) as u32

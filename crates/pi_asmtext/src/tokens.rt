@@ -1,6 +1,6 @@
 // Cuts the characters of a text into tokens and lines, one character after the other.
 
-ghost use Rattle.std.specs.Prelude.{◌≡◌, ◌+◌, ◌<◌, IfOk, length};
+ghost use Rattle.std.specs.Prelude.{◌≡◌, ◌+◌, ◌<◌, IfOk, length, ◌^◌};
 ghost use Rattle.std.specs.Str.{chars};
 ghost use Rattle.pi_asmtext.specs.Cutting.{at_start, with_character, token_end, token_start, unquoted_step, line_step, ended_line, text_step, whole_cut};
 ghost use Rattle.pi_asmtext.specs.Tokens.{lines_of, line_count};
@@ -152,8 +152,8 @@ impl Cutter {
 
     /// The next character of the text.
     pub fn take(&mut self, alloc: Global, c: char) -> Result<(), AllocError>
-        requires number { self.old.number < 4294967295 }
-        requires column { self.old.column < 4294967295 }
+        requires number { self.old.number + 1 < 2 ^ 32 }
+        requires column { self.old.column + 1 < 2 ^ 32 }
         ensures { IfOk result (λ done. self.new ≡ text_step self.old c) }
     {
         if c == '\n' {
@@ -169,7 +169,7 @@ impl Cutter {
 
     // The text ends, and its last line with it.
     fn finish(self, alloc: Global) -> Result<Cut, AllocError>
-        requires { self.number < 4294967295 }
+        requires { self.number + 1 < 2 ^ 32 }
         ensures { IfOk result (λ cut. cut ≡ whole_cut self) }
     {
         let behind = if self.column == 1 {

@@ -5,6 +5,7 @@ use Rattle.std.specs.List.{list_all, All}
 use Rattle.std.proofs.lemmas.Bool.Decides.{nat_tests}
 use Rattle.pi_bytes.specs.Place.{Place}
 use Rattle.pi_insn.specs.Chain.{◌>>=◌}
+use Rattle.pi_insn.proofs.Steps.{bind_some}
 use Rattle.pi_format.specs.declared.lists.MemberList.{MemberList}
 use Rattle.pi_format.specs.declared.lists.MemberList.TheVariants.{StaticFields, InstanceFields, DirectMethods, VirtualMethods}
 use Rattle.pi_format.specs.Tables.{count_at, string_ids, type_ids, field_ids, method_ids}
@@ -22,16 +23,6 @@ use Rattle.pi_classdata.specs.There.{IsMember, AreMembers, NamesThere}
 use Rattle.pi_classdata.specs.Held.{held_value}
 use Rattle.pi_classdata.proofs.Chains.{rows_good}
 use Rattle.pi_classdata.proofs.Fits.{values_step}
-
--- one step after another that gave something
-pub record Bound {A B : Type 0} (m : Option A) (f : A → Option B) (y : B) : Type 0 where
-  pub value : A
-  pub is : m ≡ Some value
-  pub rest : f value ≡ Some y
-
-pub bound : {A B : Type 0} (m : Option A) (f : A → Option B) (y : B) → (m >>= f) ≡ Some y → Bound m f y
-bound None f y e = cc
-bound (Some x) f y e = record { value = x; is = refl; rest = e }
 
 chosen : {A : Type 0} (b : Bool) (x y : A) → (if b then Some x else None) ≡ Some y → x ≡ y
 chosen true x y e = cc
@@ -51,18 +42,18 @@ all_of file o list n p x e = (rows_good (row_holds file o list) list n None p x 
 pub rows_hold : (file : List ℕ) (o : Owner) (p : Place) (rows : ClassRows) → rows_at file o p ≡ Some rows → AllHold file o rows
 unfolding rows_at
 rows_hold file o p rows e =
-    let counts = bound (row_counts p) _ rows e in
-    let n = counts.value.0 in
-    let statics = bound (rows_of_list file o StaticFields n.statics counts.value.1) _ rows counts.rest in
-    let instances = bound (rows_of_list file o InstanceFields n.instances statics.value.1) _ rows statics.rest in
-    let directs = bound (rows_of_list file o DirectMethods n.directs instances.value.1) _ rows instances.rest in
-    let virtuals = bound (rows_of_list file o VirtualMethods n.virtuals directs.value.1) _ rows directs.rest in
-    let is = chosen _ _ rows virtuals.rest in
+    let counts = bind_some (row_counts p) _ rows e in
+    let n = counts.0.0 in
+    let statics = bind_some (rows_of_list file o StaticFields n.statics counts.0.1) _ rows counts.1.1 in
+    let instances = bind_some (rows_of_list file o InstanceFields n.instances statics.0.1) _ rows statics.1.1 in
+    let directs = bind_some (rows_of_list file o DirectMethods n.directs instances.0.1) _ rows instances.1.1 in
+    let virtuals = bind_some (rows_of_list file o VirtualMethods n.virtuals directs.0.1) _ rows directs.1.1 in
+    let is = chosen _ _ rows virtuals.1.1 in
     subst (AllHold file o) is (record {
-      statics = all_of file o StaticFields n.statics counts.value.1 statics.value statics.is;
-      instances = all_of file o InstanceFields n.instances statics.value.1 instances.value instances.is;
-      directs = all_of file o DirectMethods n.directs instances.value.1 directs.value directs.is;
-      virtuals = all_of file o VirtualMethods n.virtuals directs.value.1 virtuals.value virtuals.is;
+      statics = all_of file o StaticFields n.statics counts.0.1 statics.0 statics.1.0;
+      instances = all_of file o InstanceFields n.instances statics.0.1 instances.0 instances.1.0;
+      directs = all_of file o DirectMethods n.directs instances.0.1 directs.0 directs.1.0;
+      virtuals = all_of file o VirtualMethods n.virtuals directs.0.1 virtuals.0 virtuals.1.0;
     })
 
 -- a fact of all elements of which a test holds
@@ -157,18 +148,18 @@ all_there file fields zero p vs e =
     subst (All (NamesThere file)) is (all_nothing (NamesThere file))
 all_there file [] (suc n) p vs e = cc
 all_there file (field ∷ fields) (suc n) p vs e =
-    let first = bound (held_value file field p) _ vs (sym (values_step file field fields n p) ∙ e) in
-    let others = bound (values_from file fields n first.value.1) _ vs first.rest in
-    let is : first.value.0 ∷ others.value ≡ vs = cc (others.rest) in
+    let first = bind_some (held_value file field p) _ vs (sym (values_step file field fields n p) ∙ e) in
+    let others = bind_some (values_from file fields n first.0.1) _ vs first.1.1 in
+    let is : first.0.0 ∷ others.0 ≡ vs = cc (others.1.1) in
     subst (All (NamesThere file)) is
-    (all_more (NamesThere file) first.value.0 others.value (held_there file field p first.value first.is)
-    (all_there file fields n first.value.1 others.value others.is))
+    (all_more (NamesThere file) first.0.0 others.0 (held_there file field p first.0 first.1.0)
+    (all_there file fields n first.0.1 others.0 others.1.0))
 
 all_at : (file : List ℕ) (fields : List MemberRow) (p : Place) (vs : List EncodedValue) → values_at file fields p ≡ Some vs → All (NamesThere file) vs
 unfolding values_at
 all_at file fields p vs e =
-    let count = bound (readable (uleb_at p)) _ vs e in
-    all_there file fields count.value.0 count.value.1 vs count.rest
+    let count = bind_some (readable (uleb_at p)) _ vs e in
+    all_there file fields count.0.0 count.0.1 vs count.1.1
 
 all_if : (file : List ℕ) (fields : List MemberRow) (b : Bool) (p : Place) (vs : List EncodedValue) → (if b then Some [] else values_at file fields p) ≡ Some vs
     → All (NamesThere file) vs

@@ -9,6 +9,7 @@ use Rattle.std.proofs.lemmas.List.{get_or_append_left, length-map, map-append}
 use Rattle.std.proofs.lemmas.List.Sorted.{searched}
 use Rattle.std.specs.List.Sorted.{IsBinarySearchResult}
 use Rattle.std.specs.Ordering.{nat_cmp}
+use Rattle.pi_bytes.specs.Numbers.{word_end}
 use Rattle.pi_codeitem.specs.Places.{Rises, ArePlaces, AreBelow, AreStarts}
 
 pub no_places : {A : Type 0} (place : A → ℕ) → ArePlaces place [] []
@@ -97,7 +98,7 @@ search_fails place x i places things are r =
         → ((k : ℕ) → i ≤ k → k < length places → x < get_or places k 0) → ⊥
     apart k l e le low high = grind (arith, low k, high k)
 
-pub none_past : {A : Type 0} (place : A → ℕ) (x : ℕ) (places : List ℕ) (things : List A) → AreStarts place places things → 4294967296 ≤ x → find (λ a. place a == x) things ≡ None
+pub none_past : {A : Type 0} (place : A → ℕ) (x : ℕ) (places : List ℕ) (things : List A) → AreStarts place places things → word_end ≤ x → find (λ a. place a == x) things ≡ None
 none_past place x places things are le =
     none_is place x things (λ k len e.
     let e' : get_or places k 0 ≡ x = ap (λ (xs : List ℕ). get_or xs k 0) are.named.named ∙ e in

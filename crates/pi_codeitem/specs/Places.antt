@@ -1,5 +1,6 @@
 -- Things in the order of their places.
 use Rattle.std.specs.Prelude.{◌≡◌, ◌<◌, ℕ, List, length, map, slice_index}
+use Rattle.pi_bytes.specs.Numbers.{word_end}
 
 -- each number is below all later ones
 pub record Rises (xs : List ℕ) : Type 0 where
@@ -17,4 +18,4 @@ pub record AreBelow (n : ℕ) (xs : List ℕ) : Type 0 where
 -- places that rise and are numbers of 32 bits
 pub record AreStarts {A : Type 0} (place : A → ℕ) (places : List ℕ) (things : List A) : Type 0 where
   pub named : ArePlaces place places things
-  pub small : AreBelow 4294967296 places
+  pub small : AreBelow word_end places

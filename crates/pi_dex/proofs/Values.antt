@@ -19,7 +19,7 @@ use Rattle.pi_format.specs.Rules.Values.{EncodedValue, value_bytes, encoded_valu
 use Rattle.pi_format.specs.Says.Classes.{values_in}
 use Rattle.pi_dex.specs.Judged.{AreBytes, IsInit}
 use Rattle.pi_format.proofs.Held.{both, below}
-use Rattle.pi_classdata.proofs.Members.{bound}
+use Rattle.pi_insn.proofs.Steps.{bind_some}
 use Rattle.pi_dexcode.proofs.Types.{if_held}
 use Rattle.pi_format.proofs.Every.{all_nothing, all_more}
 
@@ -64,15 +64,15 @@ less_than_eight n lt = omega (arith, lt)
 value_read : (p : Place) (x : EncodedValue × Place) → AreBytes p.bytes → encoded_value p ≡ Some x → IsRead p x
 unfolding encoded_value
 value_read p x are e =
-    let a = bound (readable (number_at 1 p)) _ x e in
-    let head = number_read 1 p a.value are (readable_some (number_at 1 p) a.value a.is) in
-    let bytes : ℕ = value_bytes (a.value.0 % 32) (a.value.0 / 32) in
-    let b = bound (readable (number_at bytes a.value.1)) _ x a.rest in
-    let number = number_read bytes a.value.1 b.value (subst AreBytes (sym head.1) are) (readable_some (number_at bytes a.value.1) b.value b.is) in
-    let v : EncodedValue = record { kind = a.value.0 % 32; arg = a.value.0 / 32; number = b.value.0 } in
-    let whole : EncodedValue × Place = (v, b.value.1) in
+    let a = bind_some (readable (number_at 1 p)) _ x e in
+    let head = number_read 1 p a.0 are (readable_some (number_at 1 p) a.0 a.1.0) in
+    let bytes : ℕ = value_bytes (a.0.0 % 32) (a.0.0 / 32) in
+    let b = bind_some (readable (number_at bytes a.0.1)) _ x a.1.1 in
+    let number = number_read bytes a.0.1 b.0 (subst AreBytes (sym head.1) are) (readable_some (number_at bytes a.0.1) b.0 b.1.0) in
+    let v : EncodedValue = record { kind = a.0.0 % 32; arg = a.0.0 / 32; number = b.0.0 } in
+    let whole : EncodedValue × Place = (v, b.0.1) in
     let is : whole ≡ x = cc in
-    subst (IsRead p) is (record { number = number.0; arg = less_than_eight a.value.0 head.0; stays = number.1 ∙ head.1 })
+    subst (IsRead p) is (record { number = number.0; arg = less_than_eight a.0.0 head.0; stays = number.1 ∙ head.1 })
 
 -- the test of a value by its kind
 abbrev fits_kind : ℕ → List ℕ → List ℕ → EncodedValue → Bool
@@ -131,14 +131,14 @@ values_set file fields zero p values are e =
     subst (All (IsInit file)) is (all_nothing (IsInit file))
 values_set file [] (suc n) p values are e = cc
 values_set file (field ∷ fields) (suc n) p values are e =
-    let a = bound (encoded_value p) _ values e in
-    let b = if_held (value_fits file (field_type file field.id) a.value.0) _ values a.rest in
-    let c = bound (values_from file fields n a.value.1) _ values b.1 in
-    let is : a.value.0 ∷ c.value ≡ values = cc in
-    let read = value_read p a.value are a.is in
-    let here = value_sets file (field_type file field.id) a.value.0 read.number read.arg b.0 in
-    let rest = values_set file fields n a.value.1 c.value (subst AreBytes (sym read.stays) are) c.is in
-    subst (All (IsInit file)) is (all_more (IsInit file) a.value.0 c.value here rest)
+    let a = bind_some (encoded_value p) _ values e in
+    let b = if_held (value_fits file (field_type file field.id) a.0.0) _ values a.1.1 in
+    let c = bind_some (values_from file fields n a.0.1) _ values b.1 in
+    let is : a.0.0 ∷ c.0 ≡ values = cc in
+    let read = value_read p a.0 are a.1.0 in
+    let here = value_sets file (field_type file field.id) a.0.0 read.number read.arg b.0 in
+    let rest = values_set file fields n a.0.1 c.0 (subst AreBytes (sym read.stays) are) c.1.0 in
+    subst (All (IsInit file)) is (all_more (IsInit file) a.0.0 c.0 here rest)
 
 uleb_stays : (p : Place) (x : ℕ × Place) → uleb_at p ≡ Ok x → x.1.bytes ≡ p.bytes
 unfolding uleb_at
@@ -154,8 +154,8 @@ values_at_set : (file : List ℕ) (fields : List MemberRow) (p : Place) (values 
     → values_at file fields p ≡ Some values → All (IsInit file) values
 unfolding values_at
 values_at_set file fields p values are e =
-    let a = bound (readable (uleb_at p)) _ values e in
-    values_set file fields a.value.0 a.value.1 values (subst AreBytes (sym (uleb_stays p a.value (readable_some (uleb_at p) a.value a.is))) are) a.rest
+    let a = bind_some (readable (uleb_at p)) _ values e in
+    values_set file fields a.0.0 a.0.1 values (subst AreBytes (sym (uleb_stays p a.0 (readable_some (uleb_at p) a.0 a.1.0))) are) a.1.1
 
 -- the values of each class set their fields
 pub inits_there : (file : List ℕ) (i : ℕ) → AreBytes file → All (IsInit file) (values_in (class_values file i))

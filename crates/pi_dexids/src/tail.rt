@@ -1,7 +1,8 @@
 // What is known of a text, unit by unit from its end: its length, its first unit, and what its units name or describe.
 // docs/dex-format.md states the names and descriptors.
 
-ghost use Rattle.std.specs.Prelude.{◌≡◌, ◌<◌, ◌∷◌, [], ℕ, List, true, false};
+ghost use Rattle.std.specs.Prelude.{◌≡◌, ◌<◌, ◌∷◌, [], ℕ, List, true, false, ◌+◌};
+ghost use Rattle.pi_bytes.specs.Numbers.{word_end};
 ghost use Rattle.pi_format.specs.Rules.Descriptors.{is_mark, is_class_name, is_primitive, is_simple, is_descriptor, is_member_name};
 ghost use Rattle.pi_dexids.specs.Tails.{deeper, depth_of, tail_of};
 
@@ -111,7 +112,7 @@ fn depth(unit: u16, rest: Tail) -> Option<u8>
 
 /// What is known of a unit and a text.
 pub fn with_unit(unit: u16, rest: Tail) -> Tail
-    requires { rest.units < 4294967295 }
+    requires { rest.units + 1 < word_end }
     ensures { (us : List ℕ) → rest ≡ tail_of us → result ≡ tail_of (unit ∷ us) }
 {
     Tail {

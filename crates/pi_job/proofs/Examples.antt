@@ -4,7 +4,7 @@ use Rattle.std.specs.Prelude.{codes}
 use Rattle.std.specs.Str.{is_utf8, chars}
 use lib.Utf8.{encode}
 use Rattle.pi_job.specs.Lines.{lines}
-use Rattle.pi_job.specs.Numbers.{number_of, number_in}
+use Rattle.pi_job.specs.Numbers.{number_of, number_in, most_word}
 use Rattle.pi_job.specs.Job.{job_of, IsWrongLine}
 
 -- a newline ends a line, the last may lack it, and an empty line is one
@@ -33,7 +33,7 @@ upper_case = refl
 nine_digits : number_of (codes "0x000000001") ≡ None
 nine_digits = refl
 
-base_of_33_bits : number_in 0 4294967295 (codes "4294967296") ≡ None
+base_of_33_bits : number_in 0 most_word (codes "4294967296") ≡ None
 base_of_33_bits = refl
 
 -- whole texts

@@ -3,21 +3,22 @@ use Rattle.std.proofs.Common.{◌≡◌, inl, inr, ℕ, zero, suc, ◌+◌, ◌�
 use Rattle.std.specs.Prelude.{fold, filter, IsSome, IsNone}
 use Rattle.std.proofs.lemmas.Bool.Decides.{nat_tests}
 use Rattle.std.proofs.lemmas.Option.{option_and_then_some, none-some}
+use Rattle.pi_job.specs.Numbers.{most_word}
 use Rattle.pi_job.specs.Telling.{next_line, then_on, told_from}
 use Rattle.pi_job.specs.Taking.{is_line, with_line, all_said, line_at, SaysWhole, IsFirstBroken}
 
 -- the number of the line at a place behind the line of a number
 number_at : ℕ → ℕ → ℕ
-number_at n k = min (n + k) 4294967295
+number_at n k = min (n + k) most_word
 
-next_bound : (n : ℕ) → n ≤ 4294967295 → next_line n ≤ 4294967295
+next_bound : (n : ℕ) → n ≤ most_word → next_line n ≤ most_word
 next_bound n le = grind (arith, nat_tests)
 
-number_here : (n : ℕ) → n ≤ 4294967295 → number_at n 0 ≡ n
+number_here : (n : ℕ) → n ≤ most_word → number_at n 0 ≡ n
 unfolding number_at
 number_here n le = omega arith
 
-number_next : (n k : ℕ) → n ≤ 4294967295 → number_at (next_line n) k ≡ number_at n (suc k)
+number_next : (n k : ℕ) → n ≤ most_word → number_at (next_line n) k ≡ number_at n (suc k)
 unfolding number_at
 number_next n k le = grind (arith, nat_tests)
 
@@ -56,7 +57,7 @@ module _ {A B : Type 0} (says : A → List ℕ → Option A) (whole : A → Opti
   none_said (l ∷ ls) = none_said ls
 
   -- all lines are taken
-  told_all : (ls : List (List ℕ)) (x z : A) (n : ℕ) → n ≤ 4294967295 → all_said says x ls ≡ Some z
+  told_all : (ls : List (List ℕ)) (x z : A) (n : ℕ) → n ≤ most_word → all_said says x ls ≡ Some z
       → told_from says whole x n ls ≡ then_on (number_at n (length ls)) (whole z) (λ y. Ok y)
   told_all [] x z n le e = rw (number_here n le, some_is x z e) refl
   told_all ([] ∷ ls) x z n le e =
@@ -66,7 +67,7 @@ module _ {A B : Type 0} (says : A → List ℕ → Option A) (whole : A → Opti
       (λ y is. rw (is, ← number_next n (length ls) le) (told_all ls y z (next_line n) (next_bound n le) (rw is at e)))
 
   -- the line at a place is the first that is not taken
-  told_broken : (ls : List (List ℕ)) (k : ℕ) (x z : A) (n : ℕ) → n ≤ 4294967295 → all_said says x (take k ls) ≡ Some z
+  told_broken : (ls : List (List ℕ)) (k : ℕ) (x z : A) (n : ℕ) → n ≤ most_word → all_said says x (take k ls) ≡ Some z
       → all_said says x (take (suc k) ls) ≡ None → told_from says whole x n ls ≡ Err (number_at n k)
   told_broken [] zero x z n le e refused = absurd (none-some z (sym refused ∙ e))
   told_broken [] (suc k) x z n le e refused = absurd (none-some z (sym refused ∙ e))

@@ -11,7 +11,7 @@ use Rattle.pi_job.specs.Lines.{lines}
 use Rattle.pi_job.specs.Telling.{told_from}
 use Rattle.pi_job.specs.Taking.{SaysWhole, IsFirstBroken}
 use Rattle.pi_job.specs.Units.{units_of}
-use Rattle.pi_job.specs.Numbers.{number_in}
+use Rattle.pi_job.specs.Numbers.{number_in, most_word}
 
 -- two names are the same
 abbrev pub same_name : List ℕ → List ℕ → Bool
@@ -84,8 +84,8 @@ takes_dex d = has_place d && is_none d.heap
 -- the numbers of an image line: its two bases and its steps
 abbrev pub image_numbers : List ℕ → List ℕ → List ℕ → Option (ℕ × ℕ × ℕ)
 image_numbers at load budget =
-    option_and_then (λ a. option_and_then (λ l. option_map (λ n. (a, l, n)) (number_in 1 1000000000 budget)) (number_in 0 4294967295 load))
-    (number_in 0 4294967295 at)
+    option_and_then (λ a. option_and_then (λ l. option_map (λ n. (a, l, n)) (number_in 1 1000000000 budget)) (number_in 0 most_word load))
+    (number_in 0 most_word at)
 
 -- the six fields of an image line
 abbrev pub image_of : List ℕ → List ℕ → List ℕ → List ℕ → List ℕ → List ℕ → Option ImageLine
@@ -116,7 +116,7 @@ abbrev pub with_heap : Draft → List ℕ → List ℕ → Option Draft
 with_heap d base bytes =
     if nat_lt 0 (length d.images + length d.dexes) && is_none d.heap then
     option_and_then (λ a. option_map (λ n. record d { heap = Some (record { 0 = a }, n) }) (number_in 16 268435456 bytes))
-    (number_in 0 4294967295 base)
+    (number_in 0 most_word base)
     else None
 
 -- a job with the words of its frames, behind the heap

@@ -1,6 +1,10 @@
 -- Numbers in a text: decimal without leading zeros, or 0x and one to eight lower-case hexadecimal digits.
 use Rattle.std.specs.Prelude.{ℕ, ◌+◌, ◌-◌, ◌*◌, ◌==◌, ◌&&◌, nat_le, List, [], ◌∷◌, length, Option, Some, None, if◌then◌else◌, option_and_then}
 
+-- the highest number of 32 bits
+abbrev pub most_word : ℕ
+most_word = 4294967295
+
 -- a digit to base 10 or 16
 abbrev pub digit_of : ℕ → ℕ → Option ℕ
 digit_of base b =

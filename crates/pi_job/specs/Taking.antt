@@ -1,5 +1,6 @@
 -- What it means that the lines of a text are taken one after another, and which line is the first that breaks a rule.
 use Rattle.std.specs.Prelude.{◌≡◌, ◌⊎◌, ℕ, ◌+◌, min, Bool, true, false, List, [], ◌∷◌, length, take, filter, fold, Option, Some, option_and_then, IsSome, IsNone}
+use Rattle.pi_job.specs.Numbers.{most_word}
 
 -- the line has a byte
 abbrev pub is_line : List ℕ → Bool
@@ -16,7 +17,7 @@ all_said says start ls = fold (with_line says) (Some start) (filter is_line ls)
 
 -- the number of the line at a place, counted from 1 as far as 32 bits count
 abbrev pub line_at : ℕ → ℕ
-line_at k = min (k + 1) 4294967295
+line_at k = min (k + 1) most_word
 
 -- the lines say that: all of them are taken, and it is the whole of what they say
 abbrev pub SaysWhole : {A B : Type 0} → (A → List ℕ → Option A) → (A → Option B) → A → List (List ℕ) → B → Type 0

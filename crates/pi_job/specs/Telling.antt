@@ -1,11 +1,12 @@
 -- What the lines of a text say, one after the other, and the first line that breaks a rule.
 use Rattle.std.specs.Prelude.{◌≡◌, ℕ, ◌+◌, nat_lt, List, [], ◌∷◌, Option, Some, None, Result, Ok, Err, if◌then◌else◌}
+use Rattle.pi_job.specs.Numbers.{most_word}
 use Rattle.pi_job.specs.declared.fault.TextFault.{TextFault}
 use Rattle.pi_job.specs.declared.fault.TextFault.TheVariants.{OutOfMemory, Line}
 
 -- The number of the next line: one more, as long as 32 bits count it.
 abbrev pub next_line : ℕ → ℕ
-next_line n = if nat_lt n 4294967295 then n + 1 else n
+next_line n = if nat_lt n most_word then n + 1 else n
 
 -- what follows where a line keeps its rules, and else the number of the line
 abbrev pub then_on : {A B : Type 0} → ℕ → Option A → (A → Result B ℕ) → Result B ℕ

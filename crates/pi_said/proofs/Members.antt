@@ -12,6 +12,7 @@ use Rattle.pi_model.specs.Distinct.{all_distinct}
 use Rattle.pi_model.specs.Program.{field_count, method_count}
 use Rattle.pi_model.proofs.Kept.{all_more}
 use Rattle.pi_insn.specs.Chain.{◌>>=◌}
+use Rattle.pi_insn.proofs.Steps.{bind_some}
 use Rattle.pi_format.specs.Tables.{count_at, field_ids, method_ids, class_defs}
 use Rattle.pi_format.specs.declared.lists.MemberList.{MemberList}
 use Rattle.pi_format.specs.declared.lists.MemberList.TheVariants.{StaticFields, InstanceFields, DirectMethods, VirtualMethods}
@@ -31,11 +32,6 @@ use Rattle.pi_said.proofs.Counts.{few_distinct, owned, few_owned, sum-listed_le}
 -- two rows are of one member
 abbrev pub same_id : MemberRow → MemberRow → Bool
 same_id x y = x.id == y.id
-
--- what a step that did not fail went on with
-bind_some : {A B : Type 0} (m : Option A) (f : A → Option B) (y : B) → (m >>= f) ≡ Some y → (x : A) × (m ≡ Some x) × (f x ≡ Some y)
-bind_some None f y e = absurd (none-some y e)
-bind_some (Some x) f y e = (x, refl, e)
 
 some_is : {A : Type 0} {x y : A} → Some x ≡ Some y → x ≡ y
 some_is e = cc
@@ -70,11 +66,11 @@ rows_follow holds list zero before p r e =
 rows_follow holds list (suc n) before p r e =
     let read = bind_some (member_row list before p) _ r e in
     let first : MemberRow = read.0.0 in
-    let test = tested (is_behind before first.id && holds first) _ r read.2 in
+    let test = tested (is_behind before first.id && holds first) _ r read.1.1 in
     let here = and_parts (is_behind before first.id) (holds first) test.0 in
     let more = bind_some (rows_from holds list n (Some first.id) read.0.1) _ r test.1 in
-    let rest = rows_follow holds list n (Some first.id) read.0.1 more.0 more.1 in
-    subst (λ (q : List MemberRow × Place). RowsFollow holds before q.0) (some_is more.2) (record {
+    let rest = rows_follow holds list n (Some first.id) read.0.1 more.0 more.1.0 in
+    subst (λ (q : List MemberRow × Place). RowsFollow holds before q.0) (some_is more.1.1) (record {
       behind = and_from (is_behind before first.id) (list_all (λ row. is_behind before row.id) more.0.0) here.0
           (all_more (λ (row : MemberRow). nat_lt first.id row.id) (λ (row : MemberRow). is_behind before row.id) (λ row. further before first.id row.id here.0) more.0.0 rest.behind);
       hold = and_from (holds first) (list_all holds more.0.0) here.1 rest.hold;
@@ -104,16 +100,16 @@ rows_at_fit : (file : List ℕ) (o : Owner) (p : Place) (rows : ClassRows) → r
 unfolding rows_at
 rows_at_fit file o p rows e =
     let counts = bind_some (row_counts p) _ rows e in
-    let statics = bind_some (rows_of_list file o StaticFields counts.0.0.statics counts.0.1) _ rows counts.2 in
-    let instances = bind_some (rows_of_list file o InstanceFields counts.0.0.instances statics.0.1) _ rows statics.2 in
-    let directs = bind_some (rows_of_list file o DirectMethods counts.0.0.directs instances.0.1) _ rows instances.2 in
-    let virtuals = bind_some (rows_of_list file o VirtualMethods counts.0.0.virtuals directs.0.1) _ rows directs.2 in
-    let test = tested (are_apart statics.0.0 instances.0.0 && are_apart directs.0.0 virtuals.0.0) _ rows virtuals.2 in
+    let statics = bind_some (rows_of_list file o StaticFields counts.0.0.statics counts.0.1) _ rows counts.1.1 in
+    let instances = bind_some (rows_of_list file o InstanceFields counts.0.0.instances statics.0.1) _ rows statics.1.1 in
+    let directs = bind_some (rows_of_list file o DirectMethods counts.0.0.directs instances.0.1) _ rows instances.1.1 in
+    let virtuals = bind_some (rows_of_list file o VirtualMethods counts.0.0.virtuals directs.0.1) _ rows directs.1.1 in
+    let test = tested (are_apart statics.0.0 instances.0.0 && are_apart directs.0.0 virtuals.0.0) _ rows virtuals.1.1 in
     let apart = and_parts (are_apart statics.0.0 instances.0.0) (are_apart directs.0.0 virtuals.0.0) test.0 in
-    let s = rows_follow (row_holds file o StaticFields) StaticFields counts.0.0.statics None counts.0.1 statics.0 statics.1 in
-    let i = rows_follow (row_holds file o InstanceFields) InstanceFields counts.0.0.instances None statics.0.1 instances.0 instances.1 in
-    let d = rows_follow (row_holds file o DirectMethods) DirectMethods counts.0.0.directs None instances.0.1 directs.0 directs.1 in
-    let v = rows_follow (row_holds file o VirtualMethods) VirtualMethods counts.0.0.virtuals None directs.0.1 virtuals.0 virtuals.1 in
+    let s = rows_follow (row_holds file o StaticFields) StaticFields counts.0.0.statics None counts.0.1 statics.0 statics.1.0 in
+    let i = rows_follow (row_holds file o InstanceFields) InstanceFields counts.0.0.instances None statics.0.1 instances.0 instances.1.0 in
+    let d = rows_follow (row_holds file o DirectMethods) DirectMethods counts.0.0.directs None instances.0.1 directs.0 directs.1.0 in
+    let v = rows_follow (row_holds file o VirtualMethods) VirtualMethods counts.0.0.virtuals None directs.0.1 virtuals.0 virtuals.1.0 in
     let field : MemberRow → Bool = λ row. is_field_of file o.class row.id in
     let method : MemberRow → Bool = λ row. is_method_of file o.class row.id in
     subst (RowsFit file o.class) (some_is test.1) (record {

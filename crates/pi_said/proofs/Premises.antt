@@ -4,6 +4,7 @@ use Rattle.std.proofs.Common.{◌≡◌, Some, ℕ, [], ◌∷◌, true, ◌++�
 use Rattle.std.specs.Prelude.{nat_lt, replicate}
 use Rattle.pi_model.specs.Program.{Program, no_files}
 use Rattle.pi_model.specs.Valid.{IsProgram}
+use Rattle.pi_model.proofs.Kept.{kept_at_first}
 use Rattle.pi_format.specs.Tables.{count_at, string_ids}
 use Rattle.pi_format.specs.Rules.{broken_rule, broken_tables_rule}
 use Rattle.pi_format.specs.Says.{HasRoom, Says}
@@ -13,15 +14,7 @@ says_nothing : Says [] no_files
 says_nothing = refl
 
 nothing_is_program : IsProgram no_files
-nothing_is_program = record {
-  counted = record { names = omega arith; types = omega arith; classes = omega arith; fields = omega arith; methods = omega arith; files = omega arith };
-  names_distinct = refl;
-  types_distinct = refl;
-  types_named = refl;
-  classes_named = refl;
-  classes_filed = refl;
-  parts_named = refl;
-}
+nothing_is_program = kept_at_first
 
 nothing_has_room : HasRoom no_files
 nothing_has_room = record { names = omega arith; types = omega arith; classes = omega arith; fields = omega arith; methods = omega arith }
