@@ -7,13 +7,15 @@ use Rattle.pi_format.specs.Tables.{count_at, class_defs}
 use Rattle.pi_format.specs.Rules.Header.{unless}
 use Rattle.pi_format.specs.Rules.Lowest.{lowest_of}
 use Rattle.pi_format.specs.Rules.Rows.{MemberRow}
-use Rattle.pi_format.specs.Rules.ClassData.{ClassRows, rows_of, methods_in}
+use Rattle.pi_format.specs.Rules.ClassData.{rows_of, methods_in}
 use Rattle.pi_format.specs.Rules.CodeItems.{of_code, code_head, code_lies, code_lists, code_holds, argument_words, broken_code}
 use Rattle.pi_format.specs.Rules.Pieces.{unit_of, code_walk, first_insn, index_holds, broken_index}
 use Rattle.pi_dex.specs.Judged.{code_place, index_place, CodeLies, SaysCode}
+use Rattle.pi_dex.specs.Shared.{AreCodes}
 use Rattle.pi_format.proofs.Held.{both}
-use Rattle.pi_format.proofs.Every.{all_weaker, all_both, all_left, all_right}
+use Rattle.pi_format.proofs.Every.{all_weaker, all_both}
 use Rattle.pi_dex.proofs.Lowest.{none_from, none_of}
+use Rattle.pi_dex.proofs.Shared.{codes_all}
 
 -- with code, a place is the one of the code
 with_code : (place : MemberRow → Option ℕ) (row : MemberRow) → row.code ≢ 0 → of_code place row ≡ None → place row ≡ None
@@ -55,11 +57,9 @@ rows_lie file i e lt =
     let none : lowest_of (code_place file) rows ≡ None = none_from (λ k. lowest_of (code_place file) (methods_in (rows_of file k))) (count_at file class_defs) e i lt in
     all_weaker (λ r. code_place file r ≡ None) (CodeLies file) rows (λ r f some. (row_item file r f some).lies) (none_of (code_place file) rows none)
 
-pub lists_lie : (file : List ℕ) (i : ℕ) (r : ClassRows) → r ≡ rows_of file i → broken_code file ≡ None → i < count_at file class_defs
-    → All (CodeLies file) r.directs × All (CodeLies file) r.virtuals
-lists_lie file i r is e lt =
-    let lie = subst (λ (r : ClassRows). All (CodeLies file) (methods_in r)) (sym is) (rows_lie file i e lt) in
-    (all_left (CodeLies file) r.directs r.virtuals lie, all_right (CodeLies file) r.directs r.virtuals lie)
+-- where the index of an instruction of a method is out of range
+abbrev of_index : List ℕ → MemberRow → Option ℕ
+of_index file row = of_code (λ (r : MemberRow). index_place file r.code) row
 
 unit_none : (at : ℕ) (unit : Option ℕ) → unit_of at unit ≡ None → unit ≡ None
 unit_none at None e = refl
@@ -71,12 +71,19 @@ pub rows_say : (file : List ℕ) (i : ℕ) → broken_code file ≡ None → bro
 rows_say file i code index lt =
     let rows = methods_in (rows_of file i) in
     let items : lowest_of (code_place file) rows ≡ None = none_from (λ k. lowest_of (code_place file) (methods_in (rows_of file k))) (count_at file class_defs) code i lt in
-    let indices : lowest_of (index_place file) rows ≡ None = none_from (λ k. lowest_of (index_place file) (methods_in (rows_of file k))) (count_at file class_defs) index i lt in
-    all_both (λ r. code_place file r ≡ None) (λ r. index_place file r ≡ None) (λ (r : MemberRow). r.code ≢ 0 → SaysCode file r.code) rows
+    let indices : lowest_of (of_index file) rows ≡ None = none_from (λ k. lowest_of (of_index file) (methods_in (rows_of file k))) (count_at file class_defs) index i lt in
+    all_both (λ r. code_place file r ≡ None) (λ r. of_index file r ≡ None) (λ (r : MemberRow). r.code ≢ 0 → SaysCode file r.code) rows
     (λ r e f some. record {
       lies = (row_item file r e some).lies;
       lists = (row_item file r e some).lists;
       indices = unit_none r.code (first_insn (λ at j. index_holds file j.body) (code_walk file r.code).pieces)
           (with_code (λ s. unit_of s.code (first_insn (λ at j. index_holds file j.body) (code_walk file s.code).pieces)) r some f);
     })
-    (none_of (code_place file) rows items) (none_of (index_place file) rows indices)
+    (none_of (code_place file) rows items) (none_of (of_index file) rows indices)
+
+-- so does each code item of the file
+pub codes_lie : (file codes : List ℕ) → AreCodes file codes → broken_code file ≡ None → All (λ at. code_lies file at ≡ true) codes
+codes_lie file codes are e = codes_all (λ at. code_lies file at ≡ true) file codes are (λ i lt. rows_lie file i e lt)
+
+pub codes_say : (file codes : List ℕ) → AreCodes file codes → broken_code file ≡ None → broken_index file ≡ None → All (SaysCode file) codes
+codes_say file codes are code index = codes_all (SaysCode file) file codes are (λ i lt. rows_say file i code index lt)

@@ -1,4 +1,7 @@
 mod Lowest
+mod Shared
+mod Items
+mod Weights
 mod Codes
 mod Values
 mod Signs

@@ -19,26 +19,19 @@ code_place file row = of_code (λ r. unless (code_holds file (argument_words fil
 abbrev pub CodeLies : List ℕ → MemberRow → Type 0
 CodeLies file row = row.code ≢ 0 → code_lies file row.code ≡ true
 
+-- where the rules on units are broken in a code item
+abbrev pub walk_place : List ℕ → ℕ → Option ℕ
+walk_place file at = unit_of at (code_walk file at).stop
+
+abbrev pub index_place : List ℕ → ℕ → Option ℕ
+index_place file at = unit_of at (first_insn (λ a i. index_holds file i.body) (code_walk file at).pieces)
+
+abbrev pub payload_place : List ℕ → ℕ → Option ℕ
+payload_place file at = unit_of at (first_insn (points_well (code_walk file at).pieces) (code_walk file at).pieces)
+
 -- the faults of a code item
 abbrev pub code_faults : List ℕ → ℕ → Faults
-code_faults file at = record {
-  walk = unit_of at (code_walk file at).stop;
-  index = unit_of at (first_insn (λ a i. index_holds file i.body) (code_walk file at).pieces);
-  payload = unit_of at (first_insn (points_well (code_walk file at).pieces) (code_walk file at).pieces);
-}
-
--- the same of a method, none where it has no code
-abbrev pub walk_place : List ℕ → MemberRow → Option ℕ
-walk_place file row = of_code (λ r. unit_of r.code (code_walk file r.code).stop) row
-
-abbrev pub index_place : List ℕ → MemberRow → Option ℕ
-index_place file row = of_code (λ r. unit_of r.code (first_insn (λ at i. index_holds file i.body) (code_walk file r.code).pieces)) row
-
-abbrev pub payload_place : List ℕ → MemberRow → Option ℕ
-payload_place file row = of_code (λ r. unit_of r.code (first_insn (points_well (code_walk file r.code).pieces) (code_walk file r.code).pieces)) row
-
-abbrev pub row_faults : List ℕ → MemberRow → Faults
-row_faults file row = record { walk = walk_place file row; index = index_place file row; payload = payload_place file row }
+code_faults file at = record { walk = walk_place file at; index = index_place file at; payload = payload_place file at }
 
 abbrev pub no_faults : Faults
 no_faults = record { walk = None; index = None; payload = None }
@@ -46,11 +39,11 @@ no_faults = record { walk = None; index = None; payload = None }
 abbrev pub both_faults : Faults → Faults → Faults
 both_faults f g = record { walk = lower f.walk g.walk; index = lower f.index g.index; payload = lower f.payload g.payload }
 
-abbrev pub faults_of : List ℕ → List MemberRow → Faults
-faults_of file rows = record {
-  walk = lowest_of (walk_place file) rows;
-  index = lowest_of (index_place file) rows;
-  payload = lowest_of (payload_place file) rows;
+abbrev pub faults_of : List ℕ → List ℕ → Faults
+faults_of file codes = record {
+  walk = lowest_of (walk_place file) codes;
+  index = lowest_of (index_place file) codes;
+  payload = lowest_of (payload_place file) codes;
 }
 
 -- a code item says a code: it is in the file, its lists of handlers hold, and its indices are in range

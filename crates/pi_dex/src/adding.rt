@@ -1,6 +1,6 @@
 // The file behind the chain.
 
-ghost use Rattle.std.specs.Prelude.{◌≡◌, ◌<◌, ◌≤◌, length, None, OnOk, OnErr};
+ghost use Rattle.std.specs.Prelude.{◌≡◌, ◌<◌, ◌≤◌, length, None, IfOk, OnOk, OnErr};
 ghost use Rattle.pi_bytes.specs.Numbers.{most_bytes};
 ghost use Rattle.pi_format.specs.Tables.{count_at, class_defs};
 ghost use Rattle.pi_format.specs.Rules.{broken_content_rule, broken_rule};
@@ -8,12 +8,15 @@ ghost use Rattle.pi_format.specs.Rules.Lowest.{tabulation};
 ghost use Rattle.pi_format.specs.Rules.ClassData.{broken_class_data, rows_of};
 ghost use Rattle.pi_format.specs.Says.{HasRoom, SaysNext};
 ghost use Rattle.pi_dexraw.specs.Asked.{Tells};
+ghost use Rattle.pi_dex.specs.Shared.{AreCodes};
 
 use crate::asking::ask;
 use crate::classes::{classes, types};
 use crate::code_rules::code_rule;
+use crate::codes::code_offsets;
 use crate::members::are_bytes;
 use crate::walk_rules::walk_rules;
+use crate::weight::weigh;
 use pi_classdata::{RowTable, read_rows, rows_are_members, values_rule};
 use pi_dexcode::{Named, Numbered, number};
 use pi_dexraw::{DexFault, Raw};
@@ -21,25 +24,28 @@ use pi_model::prog::Prog;
 use pi_said::{said_fits, said_has_room};
 use std::alloc::{AllocError, Global};
 
-/// Rules X18 to X23, of a file whose members were read.
-#[tactic(auto, using(crate::proofs::Told::last_told), unfolding(pi_format::specs::Rules::broken_content_rule))]
+/// Rules X18 to X23, of a file whose members were read. The answer is the code items of its methods.
+#[tactic(auto, using(crate::proofs::Told::fault_told), unfolding(pi_format::specs::Rules::broken_content_rule))]
 fn ask_content(
     alloc: Global,
     raw: &Raw<'_>,
     table: &RowTable,
     broken: Option<u32>,
-) -> Result<(), DexFault>
+) -> Result<Vec<u32>, DexFault>
     requires table { table.now ≡ tabulation (rows_of raw.now) 0 (count_at raw.now class_defs) }
     requires broken { broken ≡ broken_class_data raw.now }
-    ensures { Tells (broken_content_rule raw.now) result }
+    ensures told { Tells (broken_content_rule raw.now) result }
+    ensures codes { IfOk result (λ list. AreCodes raw.now list.items) }
 {
     ask(18, broken)?;
     ask(19, values_rule(alloc, raw, table)?)?;
-    ask(20, code_rule(alloc, raw, table)?)?;
-    let faults = walk_rules(alloc, raw, table)?;
+    let codes = code_offsets(alloc, raw, table)?;
+    ask(20, code_rule(alloc, raw, table, codes.as_slice())?)?;
+    let faults = walk_rules(alloc, raw, codes.as_slice())?;
     ask(21, faults.walk)?;
     ask(22, faults.index)?;
-    ask(23, faults.payload)
+    ask(23, faults.payload)?;
+    Ok(codes)
 }
 
 /// Adds what a file says, of which the rules X18 to X23 hold.
@@ -74,7 +80,9 @@ fn append_raw(alloc: Global, prog: &mut Prog, raw: &Raw<'_>) -> Result<(), DexFa
     ensures same { OnErr result (prog.new ≡ prog.old) }
 {
     let (broken, table) = read_rows(alloc, raw)?;
-    ask_content(alloc, raw, &table, broken)?;
+    let codes = ask_content(alloc, raw, &table, broken)?;
+    // what many share can be far more than the file: nothing is made of it before it is known to be little
+    weigh(alloc, raw, &table, codes.as_slice())?;
     add(alloc, prog, raw, &table)?;
     Ok(())
 }

@@ -4,16 +4,23 @@
 // Proved, of `append` over all bytes of at most 16 MiB: it answers Ok exactly where no rule is broken, and else the broken
 // rule with the lowest number at its lowest place (`told`); after Ok the program is the chain with exactly what the file
 // says (`said`, by `SaysNext`), and after any refusal it is as it was (`same`).
+//
+// What many methods share is tested once, and summed up before anything is made of it: a file that would bring more than a
+// file of 16 MiB could without sharing is answered by want of memory. The sums are proved exact; that they keep time and
+// memory small is measured.
 #![tactic(auto)]
 
 mod adding;
 mod asking;
 mod classes;
 mod code_rules;
+mod codes;
 mod inits;
 mod members;
 mod places;
+mod totals;
 mod walk_rules;
+mod weight;
 mod words;
 
 pub use adding::append;

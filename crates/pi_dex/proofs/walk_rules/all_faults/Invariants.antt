@@ -3,4 +3,4 @@ use Rattle.pi_dex.specs.Judged.{both_faults, faults_of}
 use Rattle.pi_dex.proofs.walk_rules.all_faults.Given as goal
 
 abbrev pub invariant-loop-i : goal.invariant-loop-i
-invariant-loop-i l = both_faults l.lowest (faults_of l.raw (drop l.i l.rows)) ≡ faults_of l.raw l.rows
+invariant-loop-i l = both_faults l.lowest (faults_of l.raw (drop l.i l.codes)) ≡ faults_of l.raw l.codes

@@ -12,7 +12,7 @@
 //
 //   case WORDS               no frames, and room for so many words
 ghost use Rattle.std.specs.Prelude.{◌≡◌};
-ghost use Rattle.pi_storerows.specs.Counted.{registers};
+ghost use Rattle.pi_partrows.specs.Counted.{registers};
 
 use crate::acts::{Answer, Store, found_or_unmet, made, word};
 use pi_frames::Frames;

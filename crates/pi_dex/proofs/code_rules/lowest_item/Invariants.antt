@@ -1,7 +1,0 @@
-use Rattle.std.proofs.Common.{◌≡◌, drop}
-use Rattle.pi_format.specs.Rules.Lowest.{lower, lowest_of}
-use Rattle.pi_dex.specs.Judged.{code_place}
-use Rattle.pi_dex.proofs.code_rules.lowest_item.Given as goal
-
-abbrev pub invariant-loop-i : goal.invariant-loop-i
-invariant-loop-i l = lower l.lowest (lowest_of (code_place l.raw) (drop l.i l.rows)) ≡ lowest_of (code_place l.raw) l.rows
