@@ -4,3 +4,5 @@ pub mod Whats
 pub mod Finding
 pub mod Places
 pub mod Lying
+pub mod Keeping
+pub mod Shared
