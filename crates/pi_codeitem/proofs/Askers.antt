@@ -1,17 +1,14 @@
 -- Which payloads instructions may point at, and the first instruction that breaks a test.
-use Rattle.std.proofs.Common.{◌≡◌, ℕ, zero, suc, List, [], ◌∷◌, Bool, true, false, Option, Some, None, refl, sym, ap, ◌∙◌, arith, subst}
+use Rattle.std.proofs.Common.{◌≡◌, ℕ, zero, suc, ◌+◌, ◌<◌, ◌≤◌, List, [], ◌∷◌, length, drop, get_or, map, Bool, true, false, Option, Some, None, refl, sym, ap, ◌∙◌, arith, subst}
 use Rattle.std.specs.Prelude.{◌==◌, ◌&&◌, ◌%◌, ℤ, pos, ◌+ℤ◌, slice_get, find, if◌then◌else◌}
+use Rattle.std.proofs.Math.ListN.{drop_of_length-le}
 use Rattle.std.proofs.lemmas.Bool.Decides.{nat_tests}
+use Rattle.std.proofs.lemmas.Option.{slice_get-map, get_or_from_slice_get}
 use Rattle.pi_insn.specs.declared.raw.RawInsn.{RawInsn}
 use Rattle.pi_insn.specs.Payloads.{PackedData, SparseData, ArrayData}
 use Rattle.pi_format.specs.Rules.Pieces.{Piece, What, Instruction, Payload, keys_rise, payload_fits, payload_found, address, payload_of, first_insn}
 use Rattle.pi_format.proofs.Loops.{none_first}
-use Rattle.pi_codeitem.specs.Asking.{asker, data_in, payload_in, passes}
-
--- an opcode asks for another
-abbrev pub asks : ℕ → Option ℕ → Bool
-asks op None = false
-asks op (Some a) = op == a
+use Rattle.pi_codeitem.specs.Asking.{asker, asks, piece_in, data_in, payload_in, passes}
 
 pub asker_fits : (op : ℕ) (w : What) → asks op (asker w) ≡ payload_fits op (data_in w)
 asker_fits op (Instruction i) = refl
@@ -52,6 +49,45 @@ first_is : (test : ℕ → RawInsn → Bool) (at units : ℕ) (w : What) (ps : L
     → first_insn test (record { at = at; units = units; what = w } ∷ ps) ≡ (if passes test (record { at = at; units = units; what = w }) then first_insn test ps else Some at)
 first_is test at units (Instruction i) ps = refl
 first_is test at units (Payload d) ps = refl
+
+-- the first instruction that breaks a test, by one more piece
+pub insn_goes : (test : ℕ → RawInsn → Bool) (pieces : List Piece) (k : ℕ) (p : Piece) → slice_get pieces k ≡ Some p → passes test p ≡ true
+    → first_insn test (drop (k + 1) pieces) ≡ first_insn test (drop k pieces)
+insn_goes test [] k p is holds = cc
+insn_goes test (first ∷ others) zero p is holds =
+    let same : p ≡ first = cc in
+    let t : passes test first ≡ true = subst (λ (q : Piece). passes test q ≡ true) same holds in
+    sym (first_is test first.at first.units first.what others ∙ rw t refl)
+insn_goes test (first ∷ others) (suc k) p is holds =
+    let next : suc k + 1 ≡ suc (k + 1) = omega arith in
+    rw next (insn_goes test others k p is holds)
+
+pub insn_stops : (test : ℕ → RawInsn → Bool) (pieces : List Piece) (k : ℕ) (p : Piece) → slice_get pieces k ≡ Some p → passes test p ≡ false
+    → first_insn test (drop k pieces) ≡ Some p.at
+insn_stops test [] k p is breaks = cc
+insn_stops test (first ∷ others) zero p is breaks =
+    let same : p ≡ first = cc in
+    let t : passes test first ≡ false = subst (λ (q : Piece). passes test q ≡ false) same breaks in
+    first_is test first.at first.units first.what others ∙ rw t (ap (λ (q : Piece). Some q.at) (sym same))
+insn_stops test (first ∷ others) (suc k) p is breaks = insn_stops test others k p is breaks
+
+pub insn_ends : (test : ℕ → RawInsn → Bool) (pieces : List Piece) (k : ℕ) → length pieces ≤ k → first_insn test (drop k pieces) ≡ None
+insn_ends test pieces k le = rw (drop_of_length-le pieces le) refl
+
+-- what stands at a place of a list
+pub there : {X : Type 0} (xs : List X) (k : ℕ) → k < length xs → (x : X) × (slice_get xs k ≡ Some x)
+there [] k lt = absurd (omega arith)
+there (x ∷ xs) zero lt = (x, refl)
+there (x ∷ xs) (suc k) lt = there xs k (omega arith)
+
+-- the opcode that asks for a piece by its number
+pub numbered_fits : (op k : ℕ) (pieces : List Piece) (askers : List (Option ℕ)) (o : Option ℕ) → askers ≡ map (λ (p : Piece). asker p.what) pieces → k < length pieces
+    → o ≡ get_or askers k o → asks op o ≡ payload_fits op (payload_in (piece_in pieces (Some k)))
+numbered_fits op k pieces askers o are lt is =
+    let p = there pieces k lt in
+    let mapped : slice_get (map (λ (p : Piece). asker p.what) pieces) k ≡ Some (asker p.0.what) = slice_get-map (λ (p : Piece). asker p.what) pieces k ∙ rw p.1 refl in
+    let found = get_or_from_slice_get (map (λ (p : Piece). asker p.what) pieces) k (asker p.0.what) o mapped in
+    ap (asks op) (is ∙ ap (λ (os : List (Option ℕ)). get_or os k o) are ∙ found) ∙ asker_fits op p.0.what ∙ rw p.1 refl
 
 -- where no instruction breaks a test, each passes it
 pub all_pass : (test : ℕ → RawInsn → Bool) (pieces : List Piece) → first_insn test pieces ≡ None → (k : ℕ) (p : Piece) → slice_get pieces k ≡ Some p → passes test p ≡ true

@@ -75,7 +75,7 @@ insn_size (unit ∷ rest) i n e =
     let size = where_size (unit % 256) (row_of (unit % 256)) (unit / 256) rest i n e in
     (size.0, omega (arith, size.1))
 
-front_size : (at : ℕ) (units : List ℕ) (p : Piece) → front_piece at units ≡ Some p → (p.at ≡ at) × (1 ≤ p.units) × (p.units ≤ length units)
+pub front_size : (at : ℕ) (units : List ℕ) (p : Piece) → front_piece at units ≡ Some p → (p.at ≡ at) × (1 ≤ p.units) × (p.units ≤ length units)
 front_size at units p e = by_read (insn_in units) (payload units) refl refl e
   where
     by_read : (r : Result (RawInsn × ℕ) InsnError) (o : Option Data) → insn_in units ≡ r → payload units ≡ o → front_piece at units ≡ Some p

@@ -1,10 +1,10 @@
 -- Where the parts of a code item end, and what its handler lists are.
 use Rattle.std.proofs.Common.{◌≡◌, ◌≢◌, ℕ, ◌+◌, ◌*◌, ◌<◌, ◌≤◌, List, [], length, true, false, Some, None, Option, refl, sym, ap, ◌∙◌, subst, arith}
-use Rattle.std.specs.Prelude.{◌==◌, ◌&&◌, nat_le, nat_lt, is_some, Bool, if◌then◌else◌}
+use Rattle.std.specs.Prelude.{◌==◌, Bool, if◌then◌else◌}
 use Rattle.std.proofs.lemmas.Bool.Decides.{nat_tests}
 use Rattle.pi_bytes.specs.Numbers.{word_at}
 use Rattle.pi_insn.specs.Chain.{◌>>=◌}
-use Rattle.pi_format.specs.Rules.CodeItems.{CodeHead, HandlerList, code_head, code_lies, lists_at, ranges_hold, ranges_have_lists, handler_lists, code_lists, code_holds}
+use Rattle.pi_format.specs.Rules.CodeItems.{CodeHead, HandlerList, code_head, code_lies, lists_at, ranges_hold, ranges_have_lists, handler_lists, code_lists}
 
 pub code_in_file : (file : List ℕ) (at : ℕ) → code_lies file at ≡ true → at + 16 + 2 * word_at file (at + 12) ≤ length file
 unfolding code_lies
@@ -87,18 +87,3 @@ pub lists_read : (file : List ℕ) (at units begin : ℕ) (head : CodeHead) (r :
     → r ≡ handler_lists file units begin → handler_lists file head.units (lists_at at head) ≡ r
 lists_read file at units begin head r u b e =
     sym (e ∙ ap (λ (n : ℕ). handler_lists file n begin) u ∙ ap (λ (n : ℕ). handler_lists file head.units n) b)
-
-pub not_lying : (file : List ℕ) (words at : ℕ) → code_lies file at ≡ false → code_holds file words at ≡ false
-unfolding code_holds
-not_lying file words at fails = rw fails refl
-
-pub not_fitting : (file : List ℕ) (words at : ℕ)
-    → (((code_head file at).ins == words) && (nat_le words (code_head file at).registers && nat_lt 0 (code_head file at).units)) ≡ false → code_holds file words at ≡ false
-unfolding code_holds
-not_fitting file words at fails = grind (arith, nat_tests)
-
-pub held_by_lists : (file : List ℕ) (words at : ℕ) → code_lies file at ≡ true
-    → (((code_head file at).ins == words) && (nat_le words (code_head file at).registers && nat_lt 0 (code_head file at).units)) ≡ true
-    → code_holds file words at ≡ is_some (code_lists file at)
-unfolding code_holds
-held_by_lists file words at lies fits = grind (arith, nat_tests)

@@ -8,3 +8,6 @@ pub mod Listing
 pub mod Askers
 pub mod Filled
 pub mod Served
+mod Examples
+pub mod Standing
+pub mod Taken

@@ -1,9 +1,13 @@
 -- What one more piece leaves of the walk.
-use Rattle.std.proofs.Common.{◌≡◌, ℕ, suc, ◌+◌, ◌-◌, ◌<◌, ◌≤◌, List, [], ◌∷◌, ◌++◌, length, drop, Option, Some, None, refl, sym, ap, ◌∙◌, arith, append_assoc, length-append, length-drop, drop-drop}
-use Rattle.std.proofs.lemmas.List.{append-nil}
-use Rattle.pi_format.specs.Rules.Pieces.{Piece, Walk, front_piece, with_piece, walk_from}
+use Rattle.std.proofs.Common.{◌≡◌, ℕ, zero, suc, ◌+◌, ◌-◌, ◌<◌, ◌≤◌, List, [], ◌∷◌, ◌++◌, length, drop, map, Option, Some, None, refl, sym, ap, ◌∙◌, arith, subst, append_assoc, length-append, length-drop, drop-drop}
+use Rattle.std.proofs.Math.ListN.{drop_of_length-le}
+use Rattle.std.proofs.lemmas.List.{append-nil, map-append}
+use Rattle.pi_bytes.specs.Numbers.{most_bytes, word_end}
+use Rattle.pi_format.specs.Rules.Pieces.{Piece, Walk, front_piece, with_piece, walk_from, walk}
+use Rattle.pi_codeitem.specs.Asking.{asker}
+use Rattle.pi_codeitem.specs.Keeping.{IsWalk}
 use Rattle.pi_codeitem.specs.Places.{ArePlaces, AreBelow}
-use Rattle.pi_codeitem.proofs.Finds.{below_push, places_push}
+use Rattle.pi_codeitem.proofs.Finds.{no_places, below_push, places_push}
 
 -- pieces before those of a walk
 abbrev pub prepended : List Piece → Walk → Walk
@@ -47,21 +51,72 @@ walk_stops units at done lt few e =
     let some : 0 < length (drop at units) = omega (arith, length-drop at units) in
     rw (more, halt left at (drop at units) some e, append-nil done) refl
 
--- the pieces that stand before an address, with their places, and what the rest of the walk is
-pub record AreWalked (units : List ℕ) (at : ℕ) (starts : List ℕ) (pieces : List Piece) : Type 0 where
+-- pieces that stand before an address, with their addresses and askers, and what the rest of the walk is
+pub record AreWalked (units : List ℕ) (at : ℕ) (starts : List ℕ) (askers : List (Option ℕ)) : Type 0 where
+  pub pieces : List Piece
   pub places : ArePlaces (λ (p : Piece). p.at) starts pieces
+  pub asked : askers ≡ map (λ (p : Piece). asker p.what) pieces
   pub below : AreBelow at starts
   pub few : length pieces ≤ at
   pub inside : at ≤ length units
-  pub so_far : prepended pieces (walk_from (length units - length pieces) at (drop at units)) ≡ walk_from (length units) 0 units
+  pub so_far : prepended pieces (walk_from (length units - length pieces) at (drop at units)) ≡ walk units
 
-pub walked_more : (units : List ℕ) (at : ℕ) (starts : List ℕ) (pieces : List Piece) (p : Piece) → AreWalked units at starts pieces → at < length units
+pub walked_none : (units : List ℕ) → AreWalked units 0 [] []
+unfolding walk
+walked_none units =
+    let all : length units - 0 ≡ length units = omega arith in
+    record {
+      pieces = [];
+      places = no_places (λ (p : Piece). p.at);
+      asked = refl;
+      below = record { each = λ k len. absurd (omega arith) };
+      few = omega arith;
+      inside = omega arith;
+      so_far = rw all refl;
+    }
+
+pub walked_more : (units : List ℕ) (at : ℕ) (starts : List ℕ) (askers : List (Option ℕ)) (p : Piece) → AreWalked units at starts askers → at < length units
     → Some p ≡ front_piece at (drop at units) → p.at ≡ at → at + p.units ≤ length units → 1 ≤ p.units
-    → AreWalked units (at + p.units) (starts ++ p.at ∷ []) (pieces ++ p ∷ [])
-walked_more units at starts pieces p are lt found begins inside some = record {
-  places = places_push (λ (p : Piece). p.at) at p.at starts pieces p are.places are.below (omega arith) refl;
+    → AreWalked units (at + p.units) (starts ++ p.at ∷ []) (askers ++ asker p.what ∷ [])
+walked_more units at starts askers p are lt found begins inside some = record {
+  pieces = are.pieces ++ p ∷ [];
+  places = places_push (λ (p : Piece). p.at) at p.at starts are.pieces p are.places are.below (omega arith) refl;
+  asked = rw (are.asked, map-append (λ (p : Piece). asker p.what) are.pieces (p ∷ [])) refl;
   below = below_push at (at + p.units) p.at starts are.below (omega arith) (omega arith);
-  few = omega (arith, are.few, length-append pieces (p ∷ []));
+  few = omega (arith, are.few, length-append are.pieces (p ∷ []));
   inside = inside;
-  so_far = walk_goes units at pieces p lt are.few (sym found) ∙ are.so_far;
+  so_far = walk_goes units at are.pieces p lt are.few (sym found) ∙ are.so_far;
 }
+
+below_end : (n m : ℕ) (xs : List ℕ) → AreBelow n xs → n ≤ m → AreBelow m xs
+below_end n m xs below le = record { each = λ k len. omega (arith, below.each k len) }
+
+-- a walk that ended with such pieces, and a stop
+ended : (units : List ℕ) (at : ℕ) (starts : List ℕ) (askers : List (Option ℕ)) (stop : Option ℕ) (are : AreWalked units at starts askers) → length units ≤ most_bytes
+    → laid are.pieces stop ≡ walk units → IsWalk units starts askers stop
+ended units at starts askers stop are few whole = record {
+  few = few;
+  begins = record {
+    named = subst (λ (w : Walk). ArePlaces (λ (p : Piece). p.at) starts w.pieces) whole are.places;
+    small = below_end at word_end starts are.below (omega (arith, few, are.inside));
+  };
+  asked = are.asked ∙ ap (λ (w : Walk). map (λ (p : Piece). asker p.what) w.pieces) whole;
+  stops = ap (λ (w : Walk). w.stop) whole;
+}
+
+pub walk_stopped : (units : List ℕ) (at : ℕ) (starts : List ℕ) (askers : List (Option ℕ)) → AreWalked units at starts askers → length units ≤ most_bytes → at < length units
+    → front_piece at (drop at units) ≡ None → IsWalk units starts askers (Some at)
+walk_stopped units at starts askers are few lt found =
+    ended units at starts askers (Some at) are few (sym (walk_stops units at are.pieces lt are.few found) ∙ are.so_far)
+
+pub walk_ended : (units : List ℕ) (at : ℕ) (starts : List ℕ) (askers : List (Option ℕ)) → AreWalked units at starts askers → length units ≤ most_bytes → length units ≤ at
+    → IsWalk units starts askers None
+walk_ended units at starts askers are few le =
+    let none : drop at units ≡ [] = drop_of_length-le units le in
+    let rest : prepended are.pieces (walk_from (length units - length are.pieces) at (drop at units)) ≡ laid are.pieces None =
+    rw none (nothing (length units - length are.pieces)) in
+    ended units at starts askers None are few (sym rest ∙ are.so_far)
+  where
+    nothing : (more : ℕ) → prepended are.pieces (walk_from more at []) ≡ laid are.pieces None
+    nothing zero = ap (λ (ps : List Piece). laid ps None) (append-nil are.pieces)
+    nothing (suc more) = ap (λ (ps : List Piece). laid ps None) (append-nil are.pieces)

@@ -1,5 +1,5 @@
 -- Which instructions may point at a payload, and which tests pieces pass.
-use Rattle.std.specs.Prelude.{ℕ, Option, Some, None, Bool, true, if◌then◌else◌}
+use Rattle.std.specs.Prelude.{ℕ, ◌==◌, List, slice_get, Option, Some, None, Bool, true, false, if◌then◌else◌}
 use Rattle.pi_insn.specs.declared.raw.RawInsn.{RawInsn}
 use Rattle.pi_insn.specs.Payloads.{Data, PackedData, SparseData, ArrayData}
 use Rattle.pi_format.specs.Rules.Pieces.{Piece, What, Instruction, Payload, keys_rise}
@@ -14,6 +14,16 @@ data_asker (ArrayData width size items) = Some 0x26
 abbrev pub asker : What → Option ℕ
 asker (Instruction i) = None
 asker (Payload d) = data_asker d
+
+-- an opcode is that of the instructions that may point there
+abbrev pub asks : ℕ → Option ℕ → Bool
+asks op None = false
+asks op (Some a) = op == a
+
+-- the piece with a number
+abbrev pub piece_in : List Piece → Option ℕ → Option Piece
+piece_in pieces None = None
+piece_in pieces (Some k) = slice_get pieces k
 
 -- the payload that a piece is
 abbrev pub data_in : What → Option Data

@@ -5,3 +5,5 @@ pub mod Whats
 pub mod Finding
 pub mod Places
 pub mod Lying
+pub mod Keeping
+pub mod Shared

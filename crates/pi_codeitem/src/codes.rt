@@ -1,11 +1,11 @@
-// The handler lists of a code item, and whether a code item holds for a method.
+// The handler lists of a code item.
 
-ghost use Rattle.std.specs.Prelude.{◌≡◌, ◌+◌, ◌*◌, ◌<◌, ◌≤◌, ◌≢◌, ◌==◌, ◌&&◌, nat_le, nat_lt, length, true, IfOk};
+ghost use Rattle.std.specs.Prelude.{◌≡◌, ◌+◌, ◌*◌, ◌<◌, ◌≤◌, ◌≢◌, length, true, IfOk};
 ghost use Rattle.pi_bytes.specs.Numbers.{most_bytes, word_end};
-ghost use Rattle.pi_format.specs.Rules.CodeItems.{code_head, code_lies, code_lists, code_holds, tries_at, try_range, is_list_at, ranges_have_lists};
+ghost use Rattle.pi_format.specs.Rules.CodeItems.{code_head, code_lies, code_lists, tries_at, try_range, is_list_at, ranges_have_lists};
 
 use crate::handler_lists::HandlerLists;
-use crate::heads::{CodeHead, head, lies};
+use crate::heads::{CodeHead, head};
 use crate::ranges::{lists_at, range, ranges_hold, tries_at};
 use crate::reading::lists;
 use std::alloc::{AllocError, Global};
@@ -76,32 +76,4 @@ pub fn handlers(alloc: Global, file: &[u8], at: usize) -> Result<Option<HandlerL
         return Ok(Some(HandlerLists::none(alloc)));
     }
     of_ranges(alloc, file, at, &head)
-}
-
-/// Whether a head is that of a method with so many argument words, and of some units.
-fn fits(head: &CodeHead, words: u32) -> bool
-    ensures { result ≡ ((head.now.ins == words) && (nat_le words head.now.registers && nat_lt 0 head.now.units)) }
-{
-    head.ins as u32 == words && words <= head.registers as u32 && head.units > 0
-}
-
-/// Whether a code item holds for a method with that many argument words.
-#[tactic(auto, using(crate::proofs::Items::not_lying, crate::proofs::Items::not_fitting, crate::proofs::Items::held_by_lists))]
-pub fn holds(alloc: Global, file: &[u8], at: usize, words: u32) -> Result<bool, AllocError>
-    requires header { 112 ≤ length file.now }
-    requires file { length file.now ≤ most_bytes }
-    requires small { at < word_end }
-    ensures { IfOk result (λ r. r ≡ code_holds file.now words at) }
-{
-    if !lies(file, at) {
-        return Ok(false);
-    }
-    if !fits(&head(file, at), words) {
-        return Ok(false);
-    }
-    match handlers(alloc, file, at) {
-        Err(e) => Err(e),
-        Ok(None) => Ok(false),
-        Ok(Some(_)) => Ok(true),
-    }
 }

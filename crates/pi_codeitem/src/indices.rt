@@ -52,14 +52,14 @@ fn passes(file: &[u8], piece: &Piece<'_>) -> bool
 }
 
 /// The address of the first instruction whose index is out of range.
+#[tactic(auto, using(crate::proofs::Askers::insn_ends))]
 pub fn broken_index(file: &[u8], walk: &Walk<'_>) -> Option<u32>
     requires { 112 ≤ length file.now }
     ensures { result ≡ first_insn (λ at i. index_holds file.now i.body) walk.now.pieces }
 {
-    let pieces = walk.pieces();
-    for k in 0..pieces.len() {
-        let piece = &pieces[k];
-        if !passes(file, piece) {
+    for k in 0..walk.len() {
+        let piece = walk.piece(k);
+        if !passes(file, &piece) {
             return Some(piece.at);
         }
     }

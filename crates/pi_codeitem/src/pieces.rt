@@ -4,8 +4,8 @@ ghost use Rattle.std.specs.Prelude.{◌≡◌, ◌+◌, ◌*◌, ◌/◌, ◌<�
 ghost use Rattle.pi_bytes.specs.Numbers.{most_bytes};
 ghost use Rattle.pi_insn.specs.Lent.{data_of};
 ghost use Rattle.pi_format.specs.Rules.Entries.{each_from};
-ghost use Rattle.pi_format.specs.Rules.Pieces.{What as Found, front_piece, payload_units, payload_fits, signed_key, key_rises, keys_rise};
-ghost use Rattle.pi_codeitem.specs.Asking.{data_asker, data_in};
+ghost use Rattle.pi_format.specs.Rules.Pieces.{What as Found, front_piece, payload_units, signed_key, key_rises, keys_rise};
+ghost use Rattle.pi_codeitem.specs.Asking.{data_asker, asker, data_in};
 
 use crate::numbers::{signed, word};
 use pi_insn::{Payload, RawInsn, decode, payload};
@@ -24,28 +24,21 @@ pub struct Piece<'a> {
     pub at: u32,
     pub units: u32,
     pub what: What<'a>,
-    /// The opcode of the instructions that may point here. Judged once, since many may.
-    asked_by: Option<u8>,
 }
 
 impl<'a> Model for Piece<'a> {
-    ghost use Rattle.std.specs.Prelude.{◌≡◌};
     ghost use Rattle.pi_format.specs.Rules.Pieces.{Piece as Found};
 
     ghost Value = { Found };
 
-    ghost use Rattle.pi_codeitem.specs.Asking.{asker};
     ghost use Rattle.pi_codeitem.specs.Whats.{what_of};
 
     ghost view = { λ p. record { at = p.at; units = p.units; what = what_of p.what } };
-
-    ghost invariant = { λ p. p.asked_by ≡ asker (what_of p.what) };
 }
 
 /// The signed key of a case, by the units of all keys.
 fn signed_key(keys: &[u16], k: usize) -> i32
-    requires small { length keys.now ≤ most_bytes }
-    requires counted { 2 * k + 1 < length keys.now }
+    requires { 2 * k + 1 < length keys.now }
     ensures { result ≡ signed_key keys.now k }
 {
     signed(word(keys, 2 * k))
@@ -53,8 +46,7 @@ fn signed_key(keys: &[u16], k: usize) -> i32
 
 /// Whether a key is above the one before it.
 fn key_rises(keys: &[u16], k: usize) -> bool
-    requires small { length keys.now ≤ most_bytes }
-    requires counted { 2 * k + 1 < length keys.now }
+    requires { 2 * k + 1 < length keys.now }
     ensures { result ≡ key_rises keys.now k }
 {
     k == 0 || signed_key(keys, k - 1) < signed_key(keys, k)
@@ -62,7 +54,6 @@ fn key_rises(keys: &[u16], k: usize) -> bool
 
 /// Whether the keys of a sparse switch rise.
 fn keys_rise(keys: &[u16]) -> bool
-    requires { length keys.now ≤ most_bytes }
     ensures { result ≡ keys_rise keys.now }
 {
     for k in 0..keys.len() / 2 {
@@ -87,7 +78,6 @@ fn size_of(payload: &Payload<'_>) -> usize
 
 /// The opcode of the instructions that may point at a payload.
 fn asker_of(payload: &Payload<'_>) -> Option<u8>
-    requires { payload_units (data_of payload.now) ≤ most_bytes }
     ensures { result ≡ data_asker (data_of payload.now) }
 {
     match payload {
@@ -106,7 +96,6 @@ impl<'a> Piece<'a> {
             at,
             units,
             what: What::Instruction(insn),
-            asked_by: None,
         }
     }
 
@@ -116,12 +105,10 @@ impl<'a> Piece<'a> {
         ensures { result ≡ record { at = at; units = payload_units (data_of payload.entry); what = Found.Payload (data_of payload.entry) } }
     {
         let units = size_of(&payload) as u32;
-        let asked_by = asker_of(&payload);
         Piece {
             at,
             units,
             what: What::Payload(payload),
-            asked_by,
         }
     }
 
@@ -155,14 +142,13 @@ impl<'a> Piece<'a> {
         }
     }
 
-    /// Whether instructions of an opcode may point at the piece.
-    #[tactic(auto, using(crate::proofs::Askers::asker_fits))]
-    pub(crate) fn is_asked_by(&self, op: u8) -> bool
-        ensures { result ≡ payload_fits op (data_in self.now.what) }
+    /// The opcode of the instructions that may point at the piece.
+    pub(crate) fn asker(&self) -> Option<u8>
+        ensures { result ≡ asker self.now.what }
     {
-        match self.asked_by {
-            None => false,
-            Some(asker) => op == asker,
+        match &self.what {
+            What::Instruction(_) => None,
+            What::Payload(payload) => asker_of(payload),
         }
     }
 }

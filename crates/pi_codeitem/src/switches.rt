@@ -1,22 +1,12 @@
 // Rule X23: the payloads that instructions point at. docs/dex-format.md states it.
 
 ghost use Rattle.std.specs.Prelude.{◌≡◌};
-ghost use Rattle.pi_format.specs.Rules.Pieces.{payload_of, payload_fits, points_well, first_insn};
+ghost use Rattle.pi_format.specs.Rules.Pieces.{points_well, first_insn};
 ghost use Rattle.pi_codeitem.specs.Asking.{passes};
 
 use crate::pieces::{Piece, What};
 use crate::walks::Walk;
 use pi_insn::{RawBody, RawInsn};
-
-/// Whether a payload that instructions of an opcode may point at stands that far from an address.
-fn fits(walk: &Walk<'_>, op: u8, at: u32, dist: i32) -> bool
-    ensures { result ≡ payload_fits op (payload_of walk.now.pieces at dist) }
-{
-    match walk.piece_of(at, dist) {
-        None => false,
-        Some(piece) => piece.is_asked_by(op),
-    }
-}
 
 /// Whether an instruction at an address points at no payload, or at one of its kind.
 fn points_well(walk: &Walk<'_>, at: u32, insn: &RawInsn) -> bool
@@ -24,7 +14,7 @@ fn points_well(walk: &Walk<'_>, at: u32, insn: &RawInsn) -> bool
 {
     match &insn.body {
         RawBody::FillArray { dist, .. } | RawBody::Switch { dist, .. } => {
-            fits(walk, insn.op, at, *dist)
+            walk.is_asked_by(insn.op, at, *dist)
         }
         _ => true,
     }
@@ -41,13 +31,13 @@ fn passes(walk: &Walk<'_>, piece: &Piece<'_>) -> bool
 }
 
 /// The address of the first instruction that points at no payload of its kind.
+#[tactic(auto, using(crate::proofs::Askers::insn_ends))]
 pub fn broken_payload(walk: &Walk<'_>) -> Option<u32>
     ensures { result ≡ first_insn (points_well walk.now.pieces) walk.now.pieces }
 {
-    let pieces = walk.pieces();
-    for k in 0..pieces.len() {
-        let piece = &pieces[k];
-        if !passes(walk, piece) {
+    for k in 0..walk.len() {
+        let piece = walk.piece(k);
+        if !passes(walk, &piece) {
             return Some(piece.at);
         }
     }

@@ -10,22 +10,20 @@ use std::alloc::{AllocError, Global};
 
 /// The instructions and payloads that stand one behind the other from unit 0 on, up to the end or the address at which
 /// neither stands.
-#[tactic(auto, unfolding(pi_format::specs::Rules::Pieces::walk))]
 pub fn walk<'a>(alloc: Global, units: &'a [u16]) -> Result<Walk<'a>, AllocError>
     requires { length units.now ≤ most_bytes }
     ensures { IfOk result (λ w. w ≡ walk units.now) }
 {
-    let mut pieces = Vec::new(alloc);
     let mut starts = Vec::new(alloc);
+    let mut askers = Vec::new(alloc);
     let mut at = 0;
     while at < units.len() {
         let Some(piece) = Piece::front(units, at) else {
-            return Ok(Walk::new(pieces, starts, Some(at as u32)));
+            return Ok(Walk::new(units, starts, askers, Some(at as u32)));
         };
-        let size = piece.units as usize;
         starts.push(piece.at)?;
-        pieces.push(piece)?;
-        at += size;
+        askers.push(piece.asker())?;
+        at += piece.units as usize;
     }
-    Ok(Walk::new(pieces, starts, None))
+    Ok(Walk::new(units, starts, askers, None))
 }
