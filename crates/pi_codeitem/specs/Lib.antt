@@ -6,4 +6,3 @@ pub mod Finding
 pub mod Places
 pub mod Lying
 pub mod Keeping
-pub mod Shared

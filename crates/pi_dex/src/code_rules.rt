@@ -15,7 +15,7 @@ use crate::members::members;
 use crate::totals::add;
 use crate::words::argument_words;
 use pi_classdata::{ClassRows, MemberRow, RowTable, lower};
-use pi_codeitem::{holds_by_parts, item_bytes, lies, takes_words};
+use pi_codeitem::{holds_in_parts, item_bytes, lies, takes_words};
 use pi_dexraw::Raw;
 use std::alloc::{AllocError, Global};
 
@@ -116,7 +116,7 @@ pub(crate) fn code_rule(
     requires codes { AreCodes raw.now codes.now }
     ensures { IfOk result (λ r. r ≡ broken_code raw.now) }
 {
-    holds_by_parts();
+    holds_in_parts();
     let item = broken_item(alloc, raw.file(), codes)?;
     let words = broken_words(alloc, raw, table)?;
     Ok(lower(item, words))
