@@ -13,7 +13,7 @@ ghost use Rattle.pi_dex.specs.Shared.{AreCodes};
 use crate::asking::ask;
 use crate::classes::{classes, types};
 use crate::code_rules::code_rule;
-use crate::codes::code_offsets;
+use crate::offsets::code_offsets;
 use crate::members::are_bytes;
 use crate::walk_rules::walk_rules;
 use crate::weight::weigh;

@@ -14,9 +14,10 @@ mod adding;
 mod asking;
 mod classes;
 mod code_rules;
-mod codes;
+
 mod inits;
 mod members;
+mod offsets;
 mod places;
 mod totals;
 mod walk_rules;

@@ -17,9 +17,9 @@ fn add_offsets(offsets: &mut Vec<u32>, rows: &[MemberRow]) -> Result<(), AllocEr
     ensures { OnOk result (offsets.new.items ≡ offsets.old.items ++ offsets_in rows.now) }
 {
     for i in 0..rows.len() {
-        let at = rows[i].code;
-        if at != 0 {
-            offsets.push(at)?;
+        let row = &rows[i];
+        if row.code != 0 {
+            offsets.push(row.code)?;
         }
     }
     Ok(())
