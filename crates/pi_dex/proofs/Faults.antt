@@ -1,5 +1,5 @@
 -- The lowest places at which three rules are broken, one after another.
-use Rattle.std.proofs.Common.{◌≡◌, ℕ, ◌+◌, ◌<◌, ◌≤◌, List, length, drop, get_or, Option}
+use Rattle.std.proofs.Common.{◌≡◌, ℕ, ◌+◌, ◌<◌, ◌≤◌, List, length, drop, get_or, Option, refl}
 use Rattle.pi_dex.specs.declared.walk_rules.Faults.{Faults}
 use Rattle.pi_dex.specs.Judged.{walk_place, index_place, payload_place, code_faults, both_faults, faults_of}
 use Rattle.pi_dex.proofs.Lowest.{items_go, items_end}

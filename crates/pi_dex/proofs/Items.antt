@@ -23,12 +23,13 @@ use Rattle.pi_dex.proofs.Lowest.{of_append, drop_at, of_both, from_both, of_same
 in_rows : (place : ℕ → Option ℕ) (rows : List MemberRow)
     → lowest_of (of_code (λ (row : MemberRow). place row.code)) rows ≡ lowest_of place (offsets_in rows)
 in_rows place [] = refl
-in_rows place (row ∷ rows) = by_code (row.code == 0)
+in_rows place (row ∷ rows) = by_code (row.code == 0) (in_rows place rows)
   where
-    by_code : (b : Bool) → lower (if b then None else place row.code) (lowest_of (of_code (λ (r : MemberRow). place r.code)) rows)
+    by_code : (b : Bool) → lowest_of (of_code (λ (r : MemberRow). place r.code)) rows ≡ lowest_of place (offsets_in rows)
+        → lower (if b then None else place row.code) (lowest_of (of_code (λ (r : MemberRow). place r.code)) rows)
         ≡ lowest_of place (if b then offsets_in rows else row.code ∷ offsets_in rows)
-    by_code true = in_rows place rows
-    by_code false = ap (lower (place row.code)) (in_rows place rows)
+    by_code true rest = rest
+    by_code false rest = ap (lower (place row.code)) rest
 
 in_classes : (place : ℕ → Option ℕ) (file : List ℕ) (i n : ℕ)
     → lowest_from (λ k. lowest_of (of_code (λ (row : MemberRow). place row.code)) (methods_in (rows_of file k))) i n ≡ lowest_of place (offsets_from file i n)

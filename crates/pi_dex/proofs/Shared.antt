@@ -42,12 +42,12 @@ offsets_end done rows i le = rw (drop_of_length-le rows le) (append-nil done)
 
 pub offsets_join : (xs ys : List MemberRow) → offsets_in (xs ++ ys) ≡ offsets_in xs ++ offsets_in ys
 offsets_join [] ys = refl
-offsets_join (row ∷ xs) ys = by_code (row.code == 0)
+offsets_join (row ∷ xs) ys = by_code (row.code == 0) (offsets_join xs ys)
   where
-    by_code : (b : Bool) → (if b then offsets_in (xs ++ ys) else row.code ∷ offsets_in (xs ++ ys))
+    by_code : (b : Bool) → offsets_in (xs ++ ys) ≡ offsets_in xs ++ offsets_in ys → (if b then offsets_in (xs ++ ys) else row.code ∷ offsets_in (xs ++ ys))
         ≡ (if b then offsets_in xs else row.code ∷ offsets_in xs) ++ offsets_in ys
-    by_code true = offsets_join xs ys
-    by_code false = ap (λ zs. row.code ∷ zs) (offsets_join xs ys)
+    by_code true rest = rest
+    by_code false rest = ap (λ zs. row.code ∷ zs) rest
 
 -- one class after another
 pub classes_go : (file done : List ℕ) (i n : ℕ) → i < n
@@ -64,14 +64,11 @@ classes_end file done i n le =
 -- what holds of the code of each method holds of each code item
 offsets_all : (P : ℕ → Type 0) (rows : List MemberRow) → All (λ (r : MemberRow). r.code ≢ 0 → P r.code) rows → All P (offsets_in rows)
 offsets_all P [] each = all_nothing P
-offsets_all P (row ∷ rows) each = by_code (row.code == 0) refl
+offsets_all P (row ∷ rows) each = by_code (row.code == 0) refl (offsets_all P rows (λ k d lt. each (suc k) d (omega arith)))
   where
-    others : All P (offsets_in rows)
-    others = offsets_all P rows (λ k d lt. each (suc k) d (omega arith))
-
-    by_code : (b : Bool) → (row.code == 0) ≡ b → All P (if b then offsets_in rows else row.code ∷ offsets_in rows)
-    by_code true e = others
-    by_code false e =
+    by_code : (b : Bool) → (row.code == 0) ≡ b → All P (offsets_in rows) → All P (if b then offsets_in rows else row.code ∷ offsets_in rows)
+    by_code true e others = others
+    by_code false e others =
         let some : row.code ≢ 0 = grind (arith, nat_tests) in
         all_more P row.code (offsets_in rows) (each 0 row (omega arith) some) others
 
