@@ -1,7 +1,9 @@
 -- Lists by number, as they are filled.
-use Rattle.std.proofs.Common.{◌≡◌, ℕ, zero, suc, ◌+◌, ◌-◌, ◌<◌, ◌≤◌, List, [], ◌∷◌, ◌++◌, length, drop, get_or, flat_map, refl, sym, arith, append_assoc}
+use Rattle.std.proofs.Common.{◌≡◌, ℕ, zero, suc, ◌+◌, ◌-◌, ◌<◌, ◌≤◌, List, [], ◌∷◌, ◌++◌, length, drop, flat_map, Some, refl, arith, append_assoc}
+use Rattle.std.specs.Prelude.{slice_get}
 use Rattle.std.proofs.Math.ListN.{drop_of_length-le}
 use Rattle.std.proofs.lemmas.List.{drop_more, append-nil}
+use Rattle.std.proofs.lemmas.Option.{slice_get_within, get_or_from_slice_get}
 use Rattle.pi_format.specs.Rules.Lowest.{tabulation}
 
 -- one more of n, behind i of them
@@ -30,9 +32,10 @@ flat_begin f n =
     rw all refl
 
 -- what a function of the elements of a list gives, one more of them
-pub rest_go : {X A : Type 0} (f : X → List A) (done : List A) (xs : List X) (i : ℕ) (x : X) → i < length xs → x ≡ get_or xs i x
-    → (done ++ f x) ++ flat_map f (drop (i + 1) xs) ≡ done ++ flat_map f (drop i xs)
-rest_go f done xs i x lt is = rw (drop_more xs i x lt, sym is) (append_assoc done (f x) (flat_map f (drop (i + 1) xs)))
+pub rest_go : {X A : Type 0} (f : X → List A) (done : List A) (xs : List X) (k : ℕ) (x : X) → slice_get xs k ≡ Some x
+    → (done ++ f x) ++ flat_map f (drop (k + 1) xs) ≡ done ++ flat_map f (drop k xs)
+rest_go f done xs k x is =
+    rw (drop_more xs k x (slice_get_within xs k x is), get_or_from_slice_get xs k x x is) (append_assoc done (f x) (flat_map f (drop (k + 1) xs)))
 
 pub rest_end : {X A : Type 0} (f : X → List A) (done : List A) (xs : List X) (i : ℕ) → length xs ≤ i → done ++ flat_map f (drop i xs) ≡ done
 rest_end f done xs i le = rw (drop_of_length-le xs le) (append-nil done)

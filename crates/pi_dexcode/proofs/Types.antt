@@ -71,7 +71,7 @@ lists_there file units (suc n) p lists e =
 read_there : (file : List ℕ) (units begin : ℕ) (lists : List HandlerList) → handler_lists file units begin ≡ Some lists → AllNameTypes (count_at file type_ids) lists
 unfolding handler_lists
 read_there file units begin lists e =
-    let count = bind_some (readable (uleb_at (record { bytes = file; at = begin }))) (λ count. lists_from file units count.0 count.1.0) lists e in
+    let count = bind_some (readable (uleb_at (record { bytes = file; at = begin }))) (λ count. lists_from file units count.0 count.1) lists e in
     lists_there file units count.0.0 count.0.1 lists count.1.1
 
 pub types_there : (file : List ℕ) (at : ℕ) (lists : List HandlerList) → code_lists file at ≡ Some lists → AllNameTypes (count_at file type_ids) lists

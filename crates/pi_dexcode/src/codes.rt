@@ -174,10 +174,10 @@ fn lines(alloc: Global, names: &Named<'_>, walk: &Walk<'_>) -> Result<Insns, All
     requires indices { All (NamesIndex names.now.file) walk.now.pieces }
     ensures { IfOk result (λ lines. lines ≡ lines_of names.now walk.now.pieces) }
 {
-    let mut lines = Insns::new(alloc);
-    let pieces = walk.pieces();
-    for i in 0..pieces.len() {
-        add_line(alloc, names, walk, &mut lines, &pieces[i])?;
+    // most pieces are instructions: room for all keeps the list from growing by doubling
+    let mut lines = Insns::from_vec(Vec::with_capacity(alloc, walk.len())?);
+    for k in 0..walk.len() {
+        add_line(alloc, names, walk, &mut lines, &walk.piece(k))?;
     }
     Ok(lines)
 }

@@ -50,7 +50,7 @@ fn packed_cases(alloc: Global, at: u32, first: i32, targets: &[u16]) -> Result<C
     requires { length targets.now ≤ most_bytes }
     ensures { IfOk result (λ cases. cases ≡ tabulation (packed_case at first targets.now) 0 (length targets.now / 2)) }
 {
-    let mut cases = Vec::new(alloc);
+    let mut cases = Vec::with_capacity(alloc, targets.len() / 2)?;
     for k in 0..targets.len() / 2 {
         cases.push(packed_case(at, first, targets, k))?;
     }
@@ -62,7 +62,7 @@ fn sparse_cases(alloc: Global, at: u32, keys: &[u16], targets: &[u16]) -> Result
     requires { length keys.now ≡ length targets.now }
     ensures { IfOk result (λ cases. cases ≡ tabulation (sparse_case at keys.now targets.now) 0 (length targets.now / 2)) }
 {
-    let mut cases = Vec::new(alloc);
+    let mut cases = Vec::with_capacity(alloc, targets.len() / 2)?;
     for k in 0..targets.len() / 2 {
         cases.push(sparse_case(at, keys, targets, k))?;
     }
@@ -108,7 +108,7 @@ fn all_items(alloc: Global, width: u16, size: u32, units: &[u16]) -> Result<Item
     requires { IsItems width size units.now }
     ensures { IfOk result (λ items. items ≡ tabulation (item_of width units.now) 0 size) }
 {
-    let mut items = Vec::new(alloc);
+    let mut items = Vec::with_capacity(alloc, size as usize)?;
     for k in 0..size as usize {
         items.push(item(width, units, k))?;
     }
