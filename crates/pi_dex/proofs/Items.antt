@@ -1,5 +1,5 @@
 -- What X20 asks of code items alone, and of the methods that have them.
-use Rattle.std.proofs.Common.{◌≡◌, ⊥, ℕ, zero, suc, ◌+◌, ◌<◌, ◌≤◌, List, [], ◌∷◌, length, drop, get_or, Option, Some, None, Bool, true, false, refl, sym, ap, ◌∙◌, arith, subst}
+use Rattle.std.proofs.Common.{◌≡◌, ℕ, zero, suc, ◌+◌, ◌<◌, ◌≤◌, List, [], ◌∷◌, length, drop, get_or, Option, Some, None, Bool, true, false, refl, sym, ap, ◌∙◌, arith, subst}
 use Rattle.std.specs.Prelude.{◌==◌, ◌&&◌, ◌||◌, not, is_some, if◌then◌else◌}
 use Rattle.std.specs.List.{All}
 use Rattle.std.specs.List.Sorted.{IsStrictlyIncreasing}
@@ -64,23 +64,25 @@ stays_lowest file at (y ∷ ys) above =
     ∙ ap (λ o. lower o (lowest_of (item_place file) ys)) (no_lower at y (is_some (item_bytes file y)) (above 0 at (omega arith)))
     ∙ stays_lowest file at ys (λ k d lt. above (suc k) d (omega arith))
 
+same_default : (xs : List ℕ) (j a b : ℕ) → j < length xs → get_or xs j a ≡ get_or xs j b
+same_default [] j a b lt = absurd (omega arith)
+same_default (x ∷ xs) zero a b lt = refl
+same_default (x ∷ xs) (suc j) a b lt = same_default xs j a b (omega arith)
+
 later : (codes : List ℕ) (i at : ℕ) → IsStrictlyIncreasing codes → i < length codes → at ≡ get_or codes i at → All (λ y. at ≤ y) (drop (i + 1) codes)
 later codes i at rise lt is k d l =
     let inside : i + 1 + k < length codes = omega (arith, l, length-drop (i + 1) codes) in
     let below : get_or codes i at < get_or codes (i + 1 + k) at = AllPairs-from_increasing codes rise i (i + 1 + k) at (omega arith) inside in
     omega (arith, below, is, get_or-drop (i + 1) codes k d, same_default codes (i + 1 + k) d at inside)
-  where
-    same_default : (xs : List ℕ) (j a b : ℕ) → j < length xs → get_or xs j a ≡ get_or xs j b
-    same_default [] j a b lt = absurd (omega arith)
-    same_default (x ∷ xs) zero a b lt = refl
-    same_default (x ∷ xs) (suc j) a b lt = same_default xs j a b (omega arith)
 
-pub item_stops : (file codes : List ℕ) (i at : ℕ) → IsStrictlyIncreasing codes → i < length codes → at ≡ get_or codes i at → item_bytes file at ≡ None
-    → lowest_of (item_place file) (drop i codes) ≡ Some at
-item_stops file codes i at rise lt is e =
-    ap (lowest_of (item_place file)) (drop_at codes i at lt is)
+pub item_stops : (file codes : List ℕ) (i : ℕ) → IsStrictlyIncreasing codes → i < length codes → item_bytes file (get_or codes i 0) ≡ None
+    → Some (get_or codes i 0) ≡ lowest_of (item_place file) (drop i codes)
+item_stops file codes i rise lt e =
+    let at = get_or codes i 0 in
+    let is : at ≡ get_or codes i at = same_default codes i 0 at lt in
+    sym (ap (lowest_of (item_place file)) (drop_at codes i at lt is)
     ∙ ap (λ o. lower o (lowest_of (item_place file) (drop (i + 1) codes))) (place_if file at None e)
-    ∙ stays_lowest file at (drop (i + 1) codes) (later codes i at rise lt is)
+    ∙ stays_lowest file at (drop (i + 1) codes) (later codes i at rise lt is))
 
 pub items_done : (file codes : List ℕ) (i : ℕ) → length codes ≤ i → lowest_of (item_place file) (drop i codes) ≡ None
 items_done file codes i le = rw (drop_of_length-le codes le) refl

@@ -14,7 +14,6 @@ mod adding;
 mod asking;
 mod classes;
 mod code_rules;
-
 mod inits;
 mod members;
 mod offsets;

@@ -30,7 +30,8 @@ fn add_class_offsets(offsets: &mut Vec<u32>, rows: &ClassRows) -> Result<(), All
     ensures { OnOk result (offsets.new.items ≡ offsets.old.items ++ offsets_in (methods_in rows.now)) }
 {
     add_offsets(offsets, rows.directs.as_slice())?;
-    add_offsets(offsets, rows.virtuals.as_slice())
+    add_offsets(offsets, rows.virtuals.as_slice())?;
+    Ok(())
 }
 
 /// The offsets of the code items of all methods.

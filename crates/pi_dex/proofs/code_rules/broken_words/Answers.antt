@@ -2,7 +2,7 @@ use Rattle.std.proofs.Common.{ℕ, ◌+◌, ◌-◌, ◌<◌, Option, ap, ◌∙
 use Rattle.pi_format.specs.Tables.{count_at, class_defs}
 use Rattle.pi_format.specs.Rules.Lowest.{lower, lowest_from, lowest_of}
 use Rattle.pi_format.specs.Rules.ClassData.{ClassRows, methods_in}
-use Rattle.pi_dex.specs.Shared.{words_place, lowest_words}
+use Rattle.pi_dex.specs.Shared.{words_place}
 use Rattle.pi_format.proofs.Loops.{lowest_goes}
 use Rattle.pi_dex.proofs.Items.{class_place}
 use Rattle.pi_dex.proofs.code_rules.broken_words.Goals as goal
