@@ -10,6 +10,7 @@ use Rattle.pi_bytes.specs.Reading.{reading_at}
 use Rattle.pi_bytes.specs.Leb.{ends_uleb, ends_sleb, uleb_by, sleb_by, uleb_at, sleb_at}
 use Rattle.pi_bytes.proofs.Lebs.{Stands, uleb_stands, sleb_stands}
 use Rattle.pi_insn.specs.Chain.{◌>>=◌}
+use Rattle.pi_insn.proofs.Steps.{bind_some}
 use Rattle.pi_format.specs.Rules.Rows.{readable}
 use Rattle.pi_format.specs.Rules.CodeItems.{Handler, HandlerList, code_head, code_lies, lists_at, ranges_hold, ranges_have_lists, handler_at, handler_holds, handlers_from, has_last, last_handler, handler_list, lists_from, handler_lists, code_lists, code_holds}
 use Rattle.pi_codeitem.specs.Shared.{list_bytes, bytes_with, item_bytes, takes_words}
@@ -120,11 +121,7 @@ passed_on n m p q r first second = record {
   inside = subst (λ (bytes : List ℕ). r.at ≤ length bytes) first.same second.inside;
 }
 
--- what gave something
-then_some : {A B : Type 0} (o : Option A) (f : A → Option B) (y : B) → (o >>= f) ≡ Some y → (x : A) × (o ≡ Some x) × (f x ≡ Some y)
-then_some None f y e = cc
-then_some (Some x) f y e = (x, refl, e)
-
+-- what a test let through
 if_some : {A : Type 0} (b : Bool) (o : Option A) (y : A) → (if b then o else None) ≡ Some y → (b ≡ true) × (o ≡ Some y)
 if_some true o y e = (refl, e)
 if_some false o y e = cc
@@ -132,11 +129,11 @@ if_some false o y e = cc
 handler_passed : (p q : Place) (h : Handler) → handler_at p ≡ Some (h, q) → IsPassed 2 p q
 unfolding handler_at
 handler_passed p q h e =
-    let ty = then_some (readable (uleb_at p)) (λ ty. readable (uleb_at ty.1) >>= (λ to. Some (handler ty.0 to.0, to.1))) (h, q) e in
-    let to = then_some (readable (uleb_at ty.0.1)) (λ to. Some (handler ty.0.0 to.0, to.1)) (h, q) ty.2 in
-    let end : to.0.1 ≡ q = ap (λ (x : Handler × Place). x.1) (one_some (handler ty.0.0 to.0.0, to.0.1) (h, q) to.2) in
+    let ty = bind_some (readable (uleb_at p)) (λ ty. readable (uleb_at ty.1) >>= (λ to. Some (handler ty.0 to.0, to.1))) (h, q) e in
+    let to = bind_some (readable (uleb_at ty.0.1)) (λ to. Some (handler ty.0.0 to.0, to.1)) (h, q) ty.1.1 in
+    let end : to.0.1 ≡ q = ap (λ (x : Handler × Place). x.1) (one_some (handler ty.0.0 to.0.0, to.0.1) (h, q) to.1.1) in
     subst (λ (r : Place). IsPassed 2 p r) end
-    (passed_on 1 1 p ty.0.1 to.0.1 (uleb_passed p ty.0.1 ty.0.0 ty.1) (uleb_passed ty.0.1 to.0.1 to.0.0 to.1))
+    (passed_on 1 1 p ty.0.1 to.0.1 (uleb_passed p ty.0.1 ty.0.0 ty.1.0) (uleb_passed ty.0.1 to.0.1 to.0.0 to.1.0))
   where
     handler : ℕ → ℕ → Handler
     handler ty to = record { ty = ty; to = to }
@@ -150,12 +147,12 @@ handlers_passed file units zero p q hs e inside =
     let same = one_some ([], p) (hs, q) e in
     handlers_same p ([], p) (hs, q) same (record { same = refl; further = omega arith; inside = inside })
 handlers_passed file units (suc n) p q hs e inside =
-    let first = then_some (handler_at p) (λ first. if handler_holds file units first.0 then handlers_from file units n first.1 >>= (λ o. Some (first.0 ∷ o.0, o.1)) else None) (hs, q) e in
-    let held = if_some (handler_holds file units first.0.0) (handlers_from file units n first.0.1 >>= (λ o. Some (first.0.0 ∷ o.0, o.1))) (hs, q) first.2 in
-    let others = then_some (handlers_from file units n first.0.1) (λ o. Some (first.0.0 ∷ o.0, o.1)) (hs, q) held.1 in
-    let same = one_some (first.0.0 ∷ others.0.0, others.0.1) (hs, q) others.2 in
-    let here = handler_passed p first.0.1 first.0.0 first.1 in
-    let behind = handlers_passed file units n first.0.1 others.0.1 others.0.0 others.1 (subst (λ (bytes : List ℕ). first.0.1.at ≤ length bytes) (sym here.same) here.inside) in
+    let first = bind_some (handler_at p) (λ first. if handler_holds file units first.0 then handlers_from file units n first.1 >>= (λ o. Some (first.0 ∷ o.0, o.1)) else None) (hs, q) e in
+    let held = if_some (handler_holds file units first.0.0) (handlers_from file units n first.0.1 >>= (λ o. Some (first.0.0 ∷ o.0, o.1))) (hs, q) first.1.1 in
+    let others = bind_some (handlers_from file units n first.0.1) (λ o. Some (first.0.0 ∷ o.0, o.1)) (hs, q) held.1 in
+    let same = one_some (first.0.0 ∷ others.0.0, others.0.1) (hs, q) others.1.1 in
+    let here = handler_passed p first.0.1 first.0.0 first.1.0 in
+    let behind = handlers_passed file units n first.0.1 others.0.1 others.0.0 others.1.0 (subst (λ (bytes : List ℕ). first.0.1.at ≤ length bytes) (sym here.same) here.inside) in
     let all = passed_on 2 (2 * length others.0.0) p first.0.1 others.0.1 here behind in
     let count : 2 + 2 * length others.0.0 ≡ 2 * length (first.0.0 ∷ others.0.0) = omega arith in
     handlers_same p (first.0.0 ∷ others.0.0, others.0.1) (hs, q) same (subst (λ (k : ℕ). IsPassed k p others.0.1) count all)
@@ -165,10 +162,10 @@ last_passed file units false p q last e inside =
     let end : p ≡ q = ap (λ (x : Option ℕ × Place). x.1) (one_some (None, p) (last, q) e) in
     subst (λ (r : Place). IsPassed 0 p r) end (record { same = refl; further = omega arith; inside = inside })
 last_passed file units true p q last e inside =
-    let to = then_some (readable (uleb_at p)) (λ to. if nat_lt to.0 units then Some (Some to.0, to.1) else None) (last, q) e in
-    let held = if_some (nat_lt to.0.0 units) (Some (Some to.0.0, to.0.1)) (last, q) to.2 in
+    let to = bind_some (readable (uleb_at p)) (λ to. if nat_lt to.0 units then Some (Some to.0, to.1) else None) (last, q) e in
+    let held = if_some (nat_lt to.0.0 units) (Some (Some to.0.0, to.0.1)) (last, q) to.1.1 in
     let end : to.0.1 ≡ q = ap (λ (x : Option ℕ × Place). x.1) (one_some (Some to.0.0, to.0.1) (last, q) held.1) in
-    let one = uleb_passed p to.0.1 to.0.0 to.1 in
+    let one = uleb_passed p to.0.1 to.0.0 to.1.0 in
     subst (λ (r : Place). IsPassed 0 p r) end (record { same = one.same; further = omega (arith, one.further); inside = one.inside })
 
 list_same : (p : Place) (x y : HandlerList × Place) → x ≡ y → IsPassed (list_bytes x.0) p x.1 → IsPassed (list_bytes y.0) p y.1
@@ -177,14 +174,14 @@ list_same p x y same passed = subst (λ (x : HandlerList × Place). IsPassed (li
 list_passed : (file : List ℕ) (units : ℕ) (p q : Place) (l : HandlerList) → handler_list file units p ≡ Some (l, q) → IsPassed (list_bytes l) p q
 unfolding handler_list
 list_passed file units p q l e =
-    let size = then_some (readable (sleb_at p)) (λ size. handlers_from file units (nat_abs size.0) size.1 >>= (λ typed. last_handler file units (has_last size.0) typed.1 >>= (λ last. Some (list typed.0 last.0, last.1)))) (l, q) e in
-    let typed = then_some (handlers_from file units (nat_abs size.0.0) size.0.1) (λ typed. last_handler file units (has_last size.0.0) typed.1 >>= (λ last. Some (list typed.0 last.0, last.1))) (l, q) size.2 in
-    let last = then_some (last_handler file units (has_last size.0.0) typed.0.1) (λ last. Some (list typed.0.0 last.0, last.1)) (l, q) typed.2 in
-    let same = one_some (list typed.0.0 last.0.0, last.0.1) (l, q) last.2 in
-    let head = sleb_passed p size.0.1 size.0.0 size.1 in
-    let middle = handlers_passed file units (nat_abs size.0.0) size.0.1 typed.0.1 typed.0.0 typed.1 (subst (λ (bytes : List ℕ). size.0.1.at ≤ length bytes) (sym head.same) head.inside) in
+    let size = bind_some (readable (sleb_at p)) (λ size. handlers_from file units (nat_abs size.0) size.1 >>= (λ typed. last_handler file units (has_last size.0) typed.1 >>= (λ last. Some (list typed.0 last.0, last.1)))) (l, q) e in
+    let typed = bind_some (handlers_from file units (nat_abs size.0.0) size.0.1) (λ typed. last_handler file units (has_last size.0.0) typed.1 >>= (λ last. Some (list typed.0 last.0, last.1))) (l, q) size.1.1 in
+    let last = bind_some (last_handler file units (has_last size.0.0) typed.0.1) (λ last. Some (list typed.0.0 last.0, last.1)) (l, q) typed.1.1 in
+    let same = one_some (list typed.0.0 last.0.0, last.0.1) (l, q) last.1.1 in
+    let head = sleb_passed p size.0.1 size.0.0 size.1.0 in
+    let middle = handlers_passed file units (nat_abs size.0.0) size.0.1 typed.0.1 typed.0.0 typed.1.0 (subst (λ (bytes : List ℕ). size.0.1.at ≤ length bytes) (sym head.same) head.inside) in
     let both = passed_on 1 (2 * length typed.0.0) p size.0.1 typed.0.1 head middle in
-    let end = last_passed file units (has_last size.0.0) typed.0.1 last.0.1 last.0.0 last.1 (subst (λ (bytes : List ℕ). typed.0.1.at ≤ length bytes) (sym both.same) both.inside) in
+    let end = last_passed file units (has_last size.0.0) typed.0.1 last.0.1 last.0.0 last.1.0 (subst (λ (bytes : List ℕ). typed.0.1.at ≤ length bytes) (sym both.same) both.inside) in
     let all = passed_on (1 + 2 * length typed.0.0) 0 p typed.0.1 last.0.1 both end in
     let count : 1 + 2 * length typed.0.0 + 0 ≡ 2 * length typed.0.0 + 1 = omega arith in
     list_same p (list typed.0.0 last.0.0, last.0.1) (l, q) same (subst (λ (k : ℕ). IsPassed k p last.0.1) count all)
@@ -197,21 +194,21 @@ lists_stand : (file : List ℕ) (units n : ℕ) (p : Place) (ls : List HandlerLi
 lists_stand file units zero p ls e inside =
     subst (λ (ls : List HandlerList). p.at + sum_by list_bytes ls ≤ length p.bytes) (one_some [] ls e) (omega (arith, inside))
 lists_stand file units (suc n) p ls e inside =
-    let first = then_some (handler_list file units p) (λ first. lists_from file units n first.1 >>= (λ others. Some (first.0 ∷ others))) ls e in
-    let others = then_some (lists_from file units n first.0.1) (λ others. Some (first.0.0 ∷ others)) ls first.2 in
-    let here = list_passed file units p first.0.1 first.0.0 first.1 in
+    let first = bind_some (handler_list file units p) (λ first. lists_from file units n first.1 >>= (λ others. Some (first.0 ∷ others))) ls e in
+    let others = bind_some (lists_from file units n first.0.1) (λ others. Some (first.0.0 ∷ others)) ls first.1.1 in
+    let here = list_passed file units p first.0.1 first.0.0 first.1.0 in
     let within : first.0.1.at ≤ length first.0.1.bytes = subst (λ (bytes : List ℕ). first.0.1.at ≤ length bytes) (sym here.same) here.inside in
-    let behind = lists_stand file units n first.0.1 others.0 others.1 within in
+    let behind = lists_stand file units n first.0.1 others.0 others.1.0 within in
     let behind' : first.0.1.at + sum_by list_bytes others.0 ≤ length p.bytes = subst (λ (bytes : List ℕ). first.0.1.at + sum_by list_bytes others.0 ≤ length bytes) here.same behind in
-    subst (λ (ls : List HandlerList). p.at + sum_by list_bytes ls ≤ length p.bytes) (one_some (first.0.0 ∷ others.0) ls others.2)
+    subst (λ (ls : List HandlerList). p.at + sum_by list_bytes ls ≤ length p.bytes) (one_some (first.0.0 ∷ others.0) ls others.1.1)
     (omega (arith, sum_by-cons list_bytes first.0.0 others.0, here.further, behind'))
 
 read_lists_stand : (file : List ℕ) (units begin : ℕ) (ls : List HandlerList) → handler_lists file units begin ≡ Some ls → begin + sum_by list_bytes ls ≤ length file
 unfolding handler_lists
 read_lists_stand file units begin ls e =
-    let count = then_some (readable (uleb_at (record { bytes = file; at = begin }))) (λ count. lists_from file units count.0 count.1) ls e in
-    let one = uleb_passed (record { bytes = file; at = begin }) count.0.1 count.0.0 count.1 in
-    let behind = lists_stand file units count.0.0 count.0.1 ls count.2 (subst (λ (bytes : List ℕ). count.0.1.at ≤ length bytes) (sym one.same) one.inside) in
+    let count = bind_some (readable (uleb_at (record { bytes = file; at = begin }))) (λ count. lists_from file units count.0 count.1) ls e in
+    let one = uleb_passed (record { bytes = file; at = begin }) count.0.1 count.0.0 count.1.0 in
+    let behind = lists_stand file units count.0.0 count.0.1 ls count.1.1 (subst (λ (bytes : List ℕ). count.0.1.at ≤ length bytes) (sym one.same) one.inside) in
     let behind' : count.0.1.at + sum_by list_bytes ls ≤ length file = subst (λ (bytes : List ℕ). count.0.1.at + sum_by list_bytes ls ≤ length bytes) one.same behind in
     omega (arith, one.further, behind')
 
@@ -222,9 +219,9 @@ lists_read file at lists e some =
     let t : ((code_head file at).tries == 0) ≡ false = grind (arith, nat_tests) in
     let read : Option (List HandlerList) = handler_lists file (code_head file at).units (lists_at at (code_head file at)) in
     let held = if_some (ranges_hold file at (code_head file at)) (read >>= (λ ls. if ranges_have_lists file at (code_head file at) ls then Some ls else None)) lists (rw t at e) in
-    let found = then_some read (λ ls. if ranges_have_lists file at (code_head file at) ls then Some ls else None) lists held.1 in
-    let have = if_some (ranges_have_lists file at (code_head file at) found.0) (Some found.0) lists found.2 in
-    found.1 ∙ have.1
+    let found = bind_some read (λ ls. if ranges_have_lists file at (code_head file at) ls then Some ls else None) lists held.1 in
+    let have = if_some (ranges_have_lists file at (code_head file at) found.0) (Some found.0) lists found.1.1 in
+    found.1.0 ∙ have.1
 
 lists_none : (file : List ℕ) (at : ℕ) (lists : List HandlerList) → code_lists file at ≡ Some lists → (code_head file at).tries ≡ 0 → [] ≡ lists
 unfolding code_lists

@@ -6,7 +6,7 @@ ghost use Rattle.pi_format.specs.Rules.CodeItems.{code_lies};
 use crate::said::add_code;
 use pi_bytes::numbers::MOST_BYTES;
 use pi_codeitem::{
-    Piece, broken_index, broken_payload, handlers, head, holds, lies, lists_at, ranges_hold,
+    Piece, Walk, broken_index, broken_payload, handlers, head, holds, lies, lists_at, ranges_hold,
     try_range, units, walk,
 };
 use pi_rows::fault::Fault;
@@ -117,20 +117,20 @@ fn add_walk(told: &mut Told, alloc: Global, file: &[u8], at: usize) -> Result<()
         return Ok(());
     }
     let walk = walk(alloc, units.as_slice())?;
-    add_pieces(told, walk.pieces())?;
+    add_pieces(told, &walk)?;
     told.line_of("stops at", &walk.stop())?;
     told.line_of("broken payload", &broken_payload(&walk))?;
     told.words(", broken index ")?;
     told.debug(&broken_index(file, &walk))
 }
 
-fn add_pieces(told: &mut Told, pieces: &[Piece<'_>]) -> Result<(), Fault> {
+fn add_pieces(told: &mut Told, walk: &Walk<'_>) -> Result<(), Fault> {
     told.line()?;
-    told.value(&pieces.len())?;
+    told.value(&walk.len())?;
     told.words(" pieces")?;
-    for piece in pieces {
+    for k in 0..walk.len() {
         told.words(" ")?;
-        add_spelled(told, piece)?;
+        add_spelled(told, &walk.piece(k))?;
     }
     Ok(())
 }
@@ -175,7 +175,7 @@ fn add_piece(told: &mut Told, alloc: Global, file: &[u8], at: usize, unit: u32) 
 {
     let units = few_units(alloc, file, at)?;
     match walk(alloc, units.as_slice())?.piece_at(unit) {
-        Some(piece) => add_spelled(told, piece),
+        Some(piece) => add_spelled(told, &piece),
         None => told.words("none"),
     }
 }
