@@ -190,12 +190,12 @@ pub(crate) fn insn_of(
         RawBody::Switch { a, dist } => switch(alloc, walk, at, a, dist)?,
         RawBody::Filled { t, ref regs } => Insn::Filled {
             t: names.type_name(t),
-            regs: regs_of(alloc, regs)?,
+            regs: regs_of(regs),
         },
         RawBody::Invoke { how, m, ref regs } => Insn::Invoke {
             how,
             m: names.method_ref(alloc, m)?,
-            regs: regs_of(alloc, regs)?,
+            regs: regs_of(regs),
         },
         RawBody::Goto { .. } | RawBody::If { .. } | RawBody::IfZ { .. } => jump(at, body),
         RawBody::Iget { .. } | RawBody::Iput { .. } | RawBody::Sget { .. } | RawBody::Sput { .. } =>

@@ -4,6 +4,7 @@ pub mod Kept
 pub mod Orders
 pub mod Firsts
 pub mod Starts
+pub mod Registers
 mod Examples
 mod ArithmeticExamples
 mod Samples

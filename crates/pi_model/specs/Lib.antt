@@ -3,6 +3,7 @@ pub mod Distinct
 pub mod Flags
 pub mod Index
 pub mod Uses
+pub mod Registers
 pub mod Program
 pub mod Values
 pub mod Texts

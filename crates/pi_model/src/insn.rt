@@ -3,6 +3,7 @@
 
 use crate::listed::{Listed, Names};
 use crate::numbers::NameNo;
+pub use crate::regs::Regs;
 
 /// An instruction of the Dalvik bytecode, without floating point, call sites and method handles.
 #[derive(Debug, Drop)]
@@ -261,9 +262,6 @@ pub struct Case {
     pub key: u32,
     pub to: u32,
 }
-
-/// Registers in the order of the operands.
-pub type Regs = Listed<u16>;
 
 /// The cases of a switch in the order of the payload.
 pub type Cases = Listed<Case>;

@@ -15,4 +15,5 @@ pub mod numbers;
 mod order;
 pub mod prog;
 pub mod reason;
+mod regs;
 pub mod texts;

@@ -1,6 +1,6 @@
 // The names that one file brings in the order of their contents, so that one is found in few comparisons.
 
-ghost use Rattle.std.specs.Prelude.{◌≡◌, ◌≢◌, ℕ, ◌+◌, ◌-◌, ◌<◌, ◌≤◌, ◌^◌, length, position, slice_get, IfOk, IfSome, IfNone};
+ghost use Rattle.std.specs.Prelude.{◌≡◌, ◌≢◌, ℕ, ◌+◌, ◌-◌, ◌<◌, ◌≤◌, ◌^◌, length, map, position, slice_get, IfOk, IfSome, IfNone};
 ghost use Rattle.std.specs.List.{Contains};
 ghost use Rattle.pi_model.specs.Order.{IsOrder, AreOrders};
 ghost use Rattle.pi_model.specs.Texts.{same_text};
@@ -19,8 +19,14 @@ pub(crate) fn order_of(alloc: Global, names: &[Units], first: usize) -> Result<V
         keyed.push((names[n].as_slice(), n as u32))?;
     }
     keyed.sort_unstable();
+    numbers_of(alloc, keyed.as_slice())
+}
+
+fn numbers_of(alloc: Global, keyed: &[(&[u16], u32)]) -> Result<Vec<u32>, AllocError>
+    ensures { IfOk result (λ order. order.items ≡ map (λ key. key.1) keyed.now) }
+{
     let mut order: Vec<u32> = Vec::new(alloc);
-    for key in &keyed {
+    for key in keyed {
         order.push(key.1)?;
     }
     Ok(order)

@@ -1,6 +1,6 @@
 // The program of a chain of files: its names, types, classes and members by number, and what each file brought.
 
-ghost use Rattle.std.specs.Prelude.{if◌then◌else◌, ◌≡◌, ◌++◌, ◌∷◌, [], ◌≢◌, ℕ, ◌<◌, ◌≤◌, ◌^◌, length, sum_by, position, slice_get, slice_index_or, filter, option_map, is_none, is_ok, None, Some, IfOk, IfSome, IfNone, IsSomeAnd, IsTrue, OnOk, OnErr};
+ghost use Rattle.std.specs.Prelude.{◌+◌, vec_len, vec_capacity, if◌then◌else◌, ◌≡◌, ◌++◌, ◌∷◌, [], ◌≢◌, ℕ, ◌<◌, ◌≤◌, ◌^◌, length, sum_by, position, slice_get, slice_index_or, filter, option_map, is_none, is_ok, None, Some, IfOk, IfSome, IfNone, IsSomeAnd, IsTrue, OnOk, OnErr};
 ghost use Rattle.std.specs.List.{All, list_all};
 ghost use Rattle.pi_model.specs.Program.{no_files, with_file, field_count, method_count, field_number, method_number, all_fields, all_methods};
 ghost use Rattle.pi_model.specs.Texts.{same_text, name_of};
@@ -296,16 +296,19 @@ fn add_all(
 {
     let (old_names, old_types) = (names.len(), types.len());
     let (old_classes, old_files) = (classes.len(), files.len());
-    append_all(
+    make_room(
         names,
-        more_names,
+        more_names.len(),
         types,
-        more_types,
+        more_types.len(),
         classes,
-        more_classes,
+        more_classes.len(),
         files,
-        part,
     )?;
+    move_behind(names, more_names);
+    move_behind(types, more_types);
+    move_behind(classes, more_classes);
+    files.push_reserved(part);
     let added = index.extend(
         names.as_slice(),
         types.as_slice(),
@@ -322,30 +325,40 @@ fn add_all(
     added
 }
 
-/// Adds to all four lists, or to none: there is room in each before the first grows.
-fn append_all(
+/// Makes room in all four lists for so many more elements. After a refusal some may have it; all stand as they did.
+fn make_room(
     names: &mut Vec<Units>,
-    more_names: &mut Vec<Units>,
+    more_names: usize,
     types: &mut Vec<NameNo>,
-    more_types: &mut Vec<NameNo>,
+    more_types: usize,
     classes: &mut Vec<ClassDesc>,
-    more_classes: &mut Vec<ClassDesc>,
+    more_classes: usize,
     files: &mut Vec<Part>,
-    part: Part,
 ) -> Result<(), AllocError>
-    ensures names { names.new.items ≡ (if is_ok result then names.old.items ++ more_names.old.items else names.old.items) }
-    ensures types { types.new.items ≡ (if is_ok result then types.old.items ++ more_types.old.items else types.old.items) }
-    ensures classes { classes.new.items ≡ (if is_ok result then classes.old.items ++ more_classes.old.items else classes.old.items) }
-    ensures files { files.new.items ≡ (if is_ok result then files.old.items ++ part ∷ [] else files.old.items) }
+    ensures names { names.new.items ≡ names.old.items }
+    ensures types { types.new.items ≡ types.old.items }
+    ensures classes { classes.new.items ≡ classes.old.items }
+    ensures files { files.new.items ≡ files.old.items }
+    ensures name_room { OnOk result (vec_len names.new + more_names ≤ vec_capacity names.new) }
+    ensures type_room { OnOk result (vec_len types.new + more_types ≤ vec_capacity types.new) }
+    ensures class_room { OnOk result (vec_len classes.new + more_classes ≤ vec_capacity classes.new) }
+    ensures file_room { OnOk result (vec_len files.new < vec_capacity files.new) }
 {
-    types.reserve(more_types.len())?;
-    classes.reserve(more_classes.len())?;
-    files.reserve(1)?;
-    names.append(more_names)?;
-    types.append(more_types)?;
-    classes.append(more_classes)?;
-    files.push_reserved(part);
-    Ok(())
+    names.reserve(more_names)?;
+    types.reserve(more_types)?;
+    classes.reserve(more_classes)?;
+    files.reserve(1)
+}
+
+/// Moves the elements of a list behind those of another, which has room for them.
+fn move_behind<T>(items: &mut Vec<T>, more: &mut Vec<T>)
+    requires { vec_len items.old + vec_len more.old ≤ vec_capacity items.old }
+    ensures { items.new.items ≡ items.old.items ++ more.old.items }
+{
+    match items.append(more) {
+        Ok(()) => {}
+        Err(AllocError) => unreachable!(),
+    }
 }
 
 fn fresh_types(alloc: Global, index: &Index, types: &[NameNo]) -> Result<Vec<NameNo>, AllocError>

@@ -11,7 +11,7 @@ ghost use Rattle.pi_duty.specs.Small.{is_plain, is_plain_text, is_zero, field_fi
 
 use crate::first_file::{CLINIT, INT, MAIN, OBJECT, OUT, PRINT, STRINGS, VOID};
 use pi_model::describe::{ClassDesc, Code, FieldDesc, Init, Line, MethodDesc};
-use pi_model::insn::{Access, FieldRef, How, Insn, MethodRef};
+use pi_model::insn::{Access, FieldRef, How, Insn, MethodRef, Regs};
 use pi_model::numbers::{ClassNo, NameNo};
 use pi_model::prog::Prog;
 
@@ -72,14 +72,11 @@ fn names_print(m: &MethodRef) -> bool
         && is_same(m.ret, VOID)
 }
 
-/// Whether a list is one register below a number.
-fn is_one_below(words: u16, regs: &[u16]) -> bool
+/// Whether there is one register, below a number.
+fn is_one_below(words: u16, regs: &Regs) -> bool
     ensures { result ≡ one_below words regs.now }
 {
-    match regs {
-        [only] => *only < words,
-        _ => false,
-    }
+    regs.len() == 1 && regs.at(0) < words
 }
 
 /// Whether an instruction's field is one that the class lists.
@@ -109,7 +106,7 @@ fn fits_insn(class: &ClassDesc, words: u16, insn: &Insn) -> bool
             how: How::Static,
             m,
             regs,
-        } => names_print(m) && is_one_below(words, regs.as_slice()),
+        } => names_print(m) && is_one_below(words, regs),
         Insn::ReturnVoid => true,
         _ => false,
     }

@@ -4,6 +4,7 @@ use Rattle.std.specs.Prelude.{ℕ, suc, ◌+◌, ◌-◌, ◌*◌, ◌/◌, ◌%
 use Rattle.pi_model.specs.declared.insn.Insn.{Insn}
 use Rattle.pi_model.specs.declared.insn.Insn.TheVariants as insn
 use Rattle.pi_model.specs.declared.insn.Case.{Case}
+use Rattle.pi_model.specs.Registers.{registers_in_row}
 use Rattle.pi_insn.specs.declared.raw.RawBody.{RawBody}
 use Rattle.pi_insn.specs.declared.raw.RawBody.TheVariants.{Nop, Move, MoveResult, MoveException, ReturnVoid, Return, Const, ConstWide, ConstString, ConstClass, Monitor, CheckCast, InstanceOf, ArrayLength, NewInstance, NewArray, Filled, FillArray, Throw, Goto, Switch, CmpLong, If, IfZ, Aget, Aput, Iget, Iput, Sget, Sput, Invoke, Unary, Binary, BinaryLit}
 use Rattle.pi_insn.specs.declared.raw.RawRegs.{RawRegs}
@@ -26,7 +27,7 @@ target at dist = word_of (pos at +ℤ dist)
 -- the registers that an instruction names: the first so many of five, or so many in a row modulo 2^16
 abbrev pub registers : RawRegs → List ℕ
 registers (Few n regs) = take n regs
-registers (Run first n) = tabulation (λ r. r % 65536) first n
+registers (Run first n) = registers_in_row first n
 
 -- the target of a case by the units of all targets
 abbrev pub case_target : ℕ → List ℕ → ℕ → ℕ

@@ -77,7 +77,7 @@ pub fn perform<O: Sink>(
             Ok(false)
         }
         Insn::Invoke { how: _, m: _, regs } => {
-            print(registers[*regs.at(0) as usize], out)?;
+            print(registers[regs.at(0) as usize], out)?;
             Ok(false)
         }
         _ => Ok(true),

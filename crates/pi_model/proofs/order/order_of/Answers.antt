@@ -1,5 +1,7 @@
-use Rattle.std.proofs.Common.{◌≡◌, [], length, arith, refl, ◌∙◌}
-use Rattle.std.proofs.lemmas.List.{get_or_default, take_all}
+use Rattle.std.proofs.Common.{◌≡◌, ◌-◌, [], length, map, arith, refl, ◌∙◌}
+use Rattle.std.proofs.lemmas.List.{get_or_default}
+use Rattle.std.proofs.lemmas.Result.{IfOk-weaker}
+use Rattle.pi_model.specs.Order.{IsOrder}
 use Rattle.pi_model.proofs.Orders.{keys_more, order_of_keys}
 use Rattle.pi_model.proofs.order.order_of.Goals as goal
 
@@ -10,6 +12,6 @@ loop-n-preserved c =
 pub returns : goal.returns
 returns c =
     let end : c.loop-n.n ≡ length c.args.names.now = omega (arith, c.loop-n.auto.n-end c.requires.within, c.loop-n-test.false) in
-    let whole = take_all c.loop-key.key-index c.deref-key-items.result.now c.loop-key-test.false in
     let done = order_of_keys c.args.names.now c.args.first c.loop-n.n c.loop-n.keyed.items c.sort_unstable.new.self.items c.loop-n.invariant (omega (arith, end)) c.sort_unstable.ensures.permutation c.sort_unstable.ensures.sorted in
-    rw (c.loop-key.invariant, whole, c.deref-key-items.ensures.value, ← end) done
+    IfOk-weaker c.numbers_of.result (λ order. order.items ≡ map (λ key. key.1) c.as_slice-2.result.now) (λ order. IsOrder c.args.names.now c.args.first (length c.args.names.now - c.args.first) order.items)
+    (λ order e. rw (e, c.as_slice-2.ensures.value, ← end) done) c.numbers_of.ensures

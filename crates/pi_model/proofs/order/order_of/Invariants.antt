@@ -1,9 +1,5 @@
-use Rattle.std.proofs.Common.{◌≡◌, take, map}
 use Rattle.pi_model.proofs.Orders.{AreKeys}
 use Rattle.pi_model.proofs.order.order_of.Given as goal
 
 abbrev pub invariant-loop-n : goal.invariant-loop-n
 invariant-loop-n l = AreKeys l.names l.first l.n l.keyed.items
-
-abbrev pub invariant-loop-key : goal.invariant-loop-key
-invariant-loop-key l = l.order.items ≡ map (λ key. key.1) (take l.key-index l.key-items)
