@@ -1,6 +1,6 @@
 -- The texts of a file, as they are read.
 use Rattle.std.proofs.Common.{◌≡◌, ℕ, suc, ◌+◌, ◌<◌, List, [], ◌∷◌, length, drop, Option, Some, None, Result, Ok, Err, Bool, true, false, refl, sym, ap, ◌∙◌, arith, option_map, inl, inr}
-use Rattle.std.specs.Prelude.{is_some, ◌==◌, ◌&&◌, ◌⊎◌}
+use Rattle.std.specs.Prelude.{◌==◌, ◌&&◌, ◌⊎◌}
 use Rattle.pi_model.specs.Texts.{same_text}
 use Rattle.pi_bytes.proofs.Laws.{units_counted}
 use Rattle.pi_bytes.specs.Numbers.{word_at}
@@ -48,9 +48,6 @@ past_the_end file at lt =
     rw none refl
 
 -- the units behind a head
-units_behind : (file : List ℕ) (at : ℕ) (r : Result (ℕ × ℕ) ReadFault) → Option FileText
-units_behind file at r = with_count file at r
-
 text_by : (file : List ℕ) (at count begin : ℕ) (r : Result (ℕ × ℕ) ReadFault) → behind_count at r ≡ Some (count, begin)
     → with_count file at r ≡ with_units begin (units_at count (drop begin file))
 text_by file at count begin (Ok x) e =
@@ -99,10 +96,6 @@ units_of_some (Some t) units e = ap f e
     f : Option (List ℕ) → List ℕ
     f None = []
     f (Some us) = us
-
-pub is_some_mapped : (o : Option FileText) → is_some (option_map (λ (t : FileText). t.units) o) ≡ is_some o
-is_some_mapped None = refl
-is_some_mapped (Some t) = refl
 
 -- the units of a text are as many as its head says
 units_in_ok : (begin : ℕ) (r : Result (List ℕ × ℕ) ℕ) (count : ℕ) → ((units : List ℕ) (at : ℕ) → r ≡ Ok (units, at) → length units ≡ count)

@@ -2,8 +2,7 @@
 pub mod Lists
 pub mod Places
 pub mod Heads
-pub mod Behind
-pub mod Order
+pub mod KnownTexts
 mod Examples
 pub mod Grammar
 pub mod Known

@@ -3,4 +3,3 @@ pub mod Tables
 pub mod Facts
 pub mod Texts
 pub mod Tails
-pub mod Ranks

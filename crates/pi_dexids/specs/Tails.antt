@@ -1,23 +1,11 @@
--- The text from an offset to the next 0, and what is known of it.
-use Rattle.std.specs.Prelude.{◌≡◌, ◌≤◌, ◌<◌, ℕ, zero, suc, ◌+◌, ◌==◌, nat_lt, not, slice_get, List, [], ◌∷◌, length, drop, Option, Some, None, option_map, true, false, if◌then◌else◌}
+-- What is known of a text, and of the strings of a file.
+use Rattle.std.specs.Prelude.{ℕ, ◌+◌, ◌==◌, nat_lt, not, List, [], ◌∷◌, length, Option, Some, None, true, false, if◌then◌else◌}
 use Rattle.std.specs.List.{list_all, list_any}
-use Rattle.pi_bytes.specs.Mutf8.{unit_at, ends_text}
+use Rattle.pi_format.specs.Tables.{count_at, string_ids}
 use Rattle.pi_format.specs.Rules.Descriptors.{is_mark, is_simple, is_class_name}
-use Rattle.pi_dexids.specs.Facts.{first_unit}
+use Rattle.pi_format.specs.Rules.Strings.{string_units}
+use Rattle.pi_dexids.specs.Facts.{AreFacts, first_unit}
 use Rattle.pi_dexids.specs.declared.tail.Tail.{Tail}
-
--- a unit before those of what follows, where there is one
-abbrev pub behind_unit : Option (ℕ × ℕ) → (ℕ → Option (List ℕ)) → Option (List ℕ)
-behind_unit None more = None
-behind_unit (Some x) more = option_map (λ us. x.0 ∷ us) (more x.1)
-
--- the units before the first 0 of bytes, where these spell units, and there are fewer than that many
-abbrev pub units_by : ℕ → List ℕ → Option (List ℕ)
-units_by zero bytes = None
-units_by (suc n) bytes = if ends_text bytes then Some [] else behind_unit (unit_at bytes) (λ k. units_by n (drop k bytes))
-
-unfoldable pub text_from : List ℕ → Option (List ℕ)
-text_from bytes = units_by (length bytes) bytes
 
 abbrev pub deeper : Option ℕ → Option ℕ
 deeper None = None
@@ -40,19 +28,6 @@ tail_of us = record {
   depth = depth_of us;
 }
 
--- what is known of the text at an offset of a file
-unfoldable pub tail_at : List ℕ → ℕ → Option Tail
-tail_at file at = option_map tail_of (text_from (drop at file))
-
--- what a list has at a number, if it has that at all
-abbrev pub known_in : List (Option Tail) → ℕ → Option Tail
-known_in tails k = flat (slice_get tails k)
-  where
-    flat : Option (Option Tail) → Option Tail
-    flat None = None
-    flat (Some o) = o
-
--- a list has what is known from an offset of a file on
-pub record AreTails (file : List ℕ) (from : ℕ) (tails : List (Option Tail)) : Type 0 where
-  pub counted : length tails ≡ length file
-  pub each : (k : ℕ) → from ≤ k → k < length file → slice_get tails k ≡ Some (tail_at file k)
+-- a list has for each string of a file, in the order of the table, what is known of it
+abbrev pub AreTails : List ℕ → List Tail → Type 0
+AreTails file tails = AreFacts (λ i. tail_of (string_units file i)) (count_at file string_ids) tails

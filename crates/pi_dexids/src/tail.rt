@@ -1,7 +1,7 @@
 // What is known of a text, unit by unit from its end: its length, its first unit, and what its units name or describe.
 // docs/dex-format.md states the names and descriptors.
 
-ghost use Rattle.std.specs.Prelude.{◌≡◌, ◌<◌, ◌∷◌, [], ℕ, List, true, false, ◌+◌};
+ghost use Rattle.std.specs.Prelude.{◌≡◌, ◌<◌, ◌∷◌, [], ℕ, List, true, false, ◌+◌, length};
 ghost use Rattle.pi_bytes.specs.Numbers.{word_end};
 ghost use Rattle.pi_format.specs.Rules.Descriptors.{is_mark, is_class_name, is_primitive, is_simple, is_descriptor, is_member_name};
 ghost use Rattle.pi_dexids.specs.Tails.{deeper, depth_of, tail_of};
@@ -124,6 +124,18 @@ pub fn with_unit(unit: u16, rest: Tail) -> Tail
         is_name: is_name(unit, rest),
         depth: depth(unit, rest),
     }
+}
+
+/// What is known of a text, found from its last unit to its first.
+pub fn tail_of(units: &[u16]) -> Tail
+    requires { length units.now < word_end }
+    ensures { result ≡ tail_of units.now }
+{
+    let mut tail = no_unit();
+    for done in 0..units.len() {
+        tail = with_unit(units[units.len() - 1 - done], tail);
+    }
+    tail
 }
 
 /// Whether a text is a descriptor.

@@ -1,109 +1,64 @@
-// What is known of the texts of a file, for each offset from that on to the next 0, found in one pass from the end.
-// Texts may overlap: so none is read again for each string that has it.
+// What is known of the strings of a file, and with it rule X11 of docs/dex-format.md. Each text is read by itself.
 
-ghost use Rattle.std.specs.Prelude.{◌≡◌, ◌+◌, ◌<◌, ◌≤◌, length, IfOk, option_map};
+ghost use Rattle.std.specs.Prelude.{◌≡◌, ◌<◌, ◌≤◌, None, Some, length, option_map, slice_get, IfOk, IfErr, IfSome, OnOk};
 ghost use Rattle.pi_bytes.specs.Numbers.{most_bytes};
 ghost use Rattle.pi_format.specs.Tables.{count_at, string_ids};
-ghost use Rattle.pi_format.specs.Rules.Strings.{read_text, string_text, string_units};
-ghost use Rattle.pi_dexids.specs.Tails.{AreTails, tail_of, tail_at, known_in};
+ghost use Rattle.pi_format.specs.Rules.Strings.{string_text, string_units, broken_strings};
+ghost use Rattle.pi_dexids.specs.Tails.{AreTails, tail_of};
 ghost use Rattle.pi_dexids.specs.Tables.{HasTables};
 
-use crate::entries::text_place;
-use crate::tail::{Tail, no_unit, with_unit};
-use crate::texts::head;
-use pi_bytes::mutf8::{ends_text, unit_of};
+use crate::entries::{STRING_IDS, count, entry};
+use crate::tail::{Tail, tail_of};
+use crate::texts::text;
+use pi_bytes::numbers::MOST_BYTES;
 use std::alloc::{AllocError, Global};
 
-/// What a list has at an offset.
-fn known(tails: &[Option<Tail>], at: usize) -> Option<Tail>
-    ensures { result ≡ known_in tails.now at }
+/// What is known of the text of a string, where there is one. A text of more units than there is room for is a want of
+/// memory.
+#[tactic(auto, using(crate::proofs::KnownTexts::tail_of_none, crate::proofs::KnownTexts::tail_of_some))]
+fn text_tail(alloc: Global, file: &[u8], i: usize, room: usize) -> Result<Option<Tail>, AllocError>
+    requires tables { HasTables file.now }
+    requires counted { i < count_at file.now string_ids }
+    requires small { room ≤ most_bytes }
+    ensures value { IfOk result (λ r. r ≡ option_map (λ t. tail_of t.units) (string_text file.now i)) }
+    ensures within { IfOk result (λ r. IfSome r (λ t. t.units ≤ room)) }
 {
-    if at < tails.len() { tails[at] } else { None }
-}
-
-/// What is known of the text at an offset, from what is known of those behind it.
-fn read(file: &[u8], tails: &[Option<Tail>], at: usize) -> Option<Tail>
-    requires small { length file.now ≤ most_bytes }
-    requires within { at < length file.now }
-    requires known { AreTails file.now (at + 1) tails.now }
-    ensures { result ≡ tail_at file.now at }
-{
-    let bytes = file.split_at(at).1;
-    if ends_text(bytes) {
-        return Some(no_unit());
+    let Some(units) = text(alloc, file, i)? else {
+        return Ok(None);
+    };
+    if units.len() > room {
+        return Err(AllocError);
     }
-    let Some((unit, taken)) = unit_of(bytes) else {
-        return None;
-    };
-    let Some(rest) = known(tails, at + taken) else {
-        return None;
-    };
-    Some(with_unit(unit, rest))
+    Ok(Some(tail_of(units.as_slice())))
 }
 
-/// As many times nothing.
-fn nothing(alloc: Global, n: usize) -> Result<Vec<Option<Tail>>, AllocError>
-    ensures { IfOk result (λ list. length list.items ≡ n) }
+/// What is known of each string, or else X11: the place of the first string without a text.
+///
+/// Only texts that overlap can have more units together than a file may have bytes. To read more is a want of memory,
+/// so the time has a bound that does not grow with the number of strings that share bytes.
+pub fn tails(alloc: Global, file: &[u8]) -> Result<Result<Vec<Tail>, u32>, AllocError>
+    requires { HasTables file.now }
+    ensures known { IfOk result (λ r. IfOk r (λ list. AreTails file.now list.items)) }
+    ensures held { IfOk result (λ r. OnOk r (broken_strings file.now ≡ None)) }
+    ensures broken { IfOk result (λ r. IfErr r (λ place. broken_strings file.now ≡ Some place)) }
 {
     let mut list = Vec::new(alloc);
-    for done in 0..n {
-        list.push(None)?;
+    let mut room = MOST_BYTES;
+    for i in 0..count(file, STRING_IDS) {
+        let Some(tail) = text_tail(alloc, file, i, room)? else {
+            return Ok(Err(entry(file, STRING_IDS, 4, i) as u32));
+        };
+        room -= tail.units as usize;
+        list.push(tail)?;
     }
-    Ok(list)
+    Ok(Ok(list))
 }
 
-/// What is known of the texts at all offsets.
-pub fn tails(alloc: Global, file: &[u8]) -> Result<Vec<Option<Tail>>, AllocError>
-    requires { length file.now ≤ most_bytes }
-    ensures { IfOk result (λ list. AreTails file.now 0 list.items) }
-{
-    let mut list = nothing(alloc, file.len())?;
-    for done in 0..file.len() {
-        let at = file.len() - 1 - done;
-        list[at] = read(file, list.as_slice(), at);
-    }
-    Ok(list)
-}
-
-/// What is known of the text that begins with its length, at an offset where there is one.
-fn text_tail(file: &[u8], tails: &[Option<Tail>], at: usize) -> Option<Tail>
-    requires { AreTails file.now 0 tails.now }
-    ensures { result ≡ option_map (λ t. tail_of t.units) (read_text file.now at) }
-{
-    let Some((count, begin)) = head(file, at) else {
-        return None;
-    };
-    let Some(tail) = known(tails, begin) else {
-        return None;
-    };
-    if tail.units == count {
-        Some(tail)
-    } else {
-        None
-    }
-}
-
-/// What is known of the text of a string, where there is one.
-#[tactic(auto, unfolding(pi_format::specs::Rules::Strings::string_text))]
-pub fn string_tail(file: &[u8], tails: &[Option<Tail>], i: usize) -> Option<Tail>
-    requires tables { HasTables file.now }
+/// What is known of a string.
+pub fn string(file: &[u8], tails: &[Tail], i: usize) -> Tail
     requires counted { i < count_at file.now string_ids }
-    requires tails { AreTails file.now 0 tails.now }
-    ensures { result ≡ option_map (λ t. tail_of t.units) (string_text file.now i) }
-{
-    text_tail(file, tails, text_place(file, i))
-}
-
-/// What is known of a string. It has no unit where it has no text.
-#[tactic(auto, using(crate::proofs::Behind::string_known, crate::proofs::Behind::string_unknown))]
-pub fn string(file: &[u8], tails: &[Option<Tail>], i: usize) -> Tail
-    requires tables { HasTables file.now }
-    requires counted { i < count_at file.now string_ids }
-    requires tails { AreTails file.now 0 tails.now }
+    requires tails { AreTails file.now tails.now }
     ensures { result ≡ tail_of (string_units file.now i) }
 {
-    match string_tail(file, tails, i) {
-        Some(tail) => tail,
-        None => no_unit(),
-    }
+    tails[i]
 }

@@ -44,10 +44,10 @@ const OBJECT: [u16; 18] = [
 
 /// The first unit of a type.
 #[tactic(auto, unfolding(crate::specs::Facts::letter_of))]
-fn letter(file: &[u8], tails: &[Option<Tail>], t: usize) -> u16
+fn letter(file: &[u8], tails: &[Tail], t: usize) -> u16
     requires tables { HasTables file.now }
     requires types { broken_types file.now ≡ None }
-    requires tails { AreTails file.now 0 tails.now }
+    requires tails { AreTails file.now tails.now }
     requires counted { t < count_at file.now type_ids }
     ensures { result ≡ letter_of file.now t }
 {
@@ -55,10 +55,10 @@ fn letter(file: &[u8], tails: &[Option<Tail>], t: usize) -> u16
 }
 
 /// The first unit of each type.
-fn letters(alloc: Global, file: &[u8], tails: &[Option<Tail>]) -> Result<Vec<u16>, AllocError>
+fn letters(alloc: Global, file: &[u8], tails: &[Tail]) -> Result<Vec<u16>, AllocError>
     requires tables { HasTables file.now }
     requires types { broken_types file.now ≡ None }
-    requires tails { AreTails file.now 0 tails.now }
+    requires tails { AreTails file.now tails.now }
     ensures { IfOk result (λ list. AreFacts (letter_of file.now) (count_at file.now type_ids) list.items) }
 {
     let mut list = Vec::new(alloc);
@@ -84,14 +84,10 @@ fn firsts(alloc: Global, file: &[u8]) -> Result<Vec<u32>, AllocError>
 
 impl<'a> Types<'a> {
     /// Looks the types of a file up.
-    pub fn new(
-        alloc: Global,
-        file: &'a [u8],
-        tails: &[Option<Tail>],
-    ) -> Result<Types<'a>, AllocError>
+    pub fn new(alloc: Global, file: &'a [u8], tails: &[Tail]) -> Result<Types<'a>, AllocError>
         requires tables { HasTables file.now }
         requires types { broken_types file.now ≡ None }
-        requires tails { AreTails file.now 0 tails.now }
+        requires tails { AreTails file.now tails.now }
         ensures { IfOk result (λ t. t ≡ file.now) }
     {
         let letters = letters(alloc, file, tails)?;

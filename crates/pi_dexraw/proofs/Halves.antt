@@ -2,7 +2,7 @@
 use Rattle.std.proofs.Common.{◌≡◌, ◌≢◌, ℕ, ◌+◌, ◌*◌, ◌≤◌, List, length, true, false, refl, arith}
 use Rattle.std.specs.Prelude.{◌==◌}
 use Rattle.std.proofs.lemmas.Bool.Decides.{nat_tests}
-use Rattle.pi_bytes.specs.Numbers.{half_at, word_at, halves_at}
+use Rattle.pi_bytes.specs.Numbers.{word_at, halves_at}
 use Rattle.pi_bytes.proofs.Halves.{length_halves}
 use Rattle.pi_format.specs.Rules.Entries.{list_fits, list_at}
 

@@ -21,7 +21,7 @@ use crate::known::{Known, known_texts};
 use crate::map::map_rule;
 use crate::members::{fields_rule, methods_rule};
 use crate::protos::protos_rule;
-use pi_dexids::strings::{string_order_rule, strings_rule, types_rule};
+use pi_dexids::strings::{string_order_rule, types_rule};
 use pi_dexids::tail::Tail;
 use pi_dexids::tails::tails;
 use pi_dexids::types::Types;
@@ -66,25 +66,29 @@ fn ask_sums(file: &[u8]) -> Result<(), DexFault>
     ask(9, data_rule(file))
 }
 
-/// Rules X10 to X13.
+/// Rules X10 to X13, and what is known of the strings.
 #[tactic(auto, unfolding(crate::specs::Asked::string_rules))]
-fn ask_strings(alloc: Global, file: &[u8], tails: &[Option<Tail>]) -> Result<(), DexFault>
-    requires tables { HasTables file.now }
-    requires tails { AreTails file.now 0 tails.now }
+fn ask_strings(alloc: Global, file: &[u8]) -> Result<Vec<Tail>, DexFault>
+    requires { HasTables file.now }
     ensures asks { Asks (string_rules file.now) result }
     ensures strings { OnOk result (broken_strings file.now ≡ None) }
     ensures types { OnOk result (broken_types file.now ≡ None) }
+    ensures tails { IfOk result (λ list. AreTails file.now list.items) }
 {
     ask(10, map_rule(alloc, file)?)?;
-    ask(11, strings_rule(file, tails))?;
-    ask(12, string_order_rule(alloc, file, tails)?)?;
-    ask(13, types_rule(file, tails))
+    let tails = match tails(alloc, file)? {
+        Ok(tails) => tails,
+        Err(at) => return Err(DexFault::Rule { rule: 11, at }),
+    };
+    ask(12, string_order_rule(alloc, file)?)?;
+    ask(13, types_rule(file, tails.as_slice()))?;
+    Ok(tails)
 }
 
 /// Rules X14 and X15.
 #[tactic(auto, unfolding(crate::specs::Asked::id_rules))]
-fn ask_ids(alloc: Global, types: &Types<'_>, tails: &[Option<Tail>]) -> Result<(), DexFault>
-    requires { AreTails types.now 0 tails.now }
+fn ask_ids(alloc: Global, types: &Types<'_>, tails: &[Tail]) -> Result<(), DexFault>
+    requires { AreTails types.now tails.now }
     ensures { Asks (id_rules types.now) result }
 {
     ask(14, protos_rule(alloc, types)?)?;
@@ -93,8 +97,8 @@ fn ask_ids(alloc: Global, types: &Types<'_>, tails: &[Option<Tail>]) -> Result<(
 
 /// Rules X16 and X17.
 #[tactic(auto, unfolding(crate::specs::Asked::class_rules))]
-fn ask_classes(alloc: Global, types: &Types<'_>, tails: &[Option<Tail>]) -> Result<(), DexFault>
-    requires { AreTails types.now 0 tails.now }
+fn ask_classes(alloc: Global, types: &Types<'_>, tails: &[Tail]) -> Result<(), DexFault>
+    requires { AreTails types.now tails.now }
     ensures { Asks (class_rules types.now) result }
 {
     ask(16, methods_rule(alloc, types, tails)?)?;
@@ -114,8 +118,7 @@ pub(crate) fn ask_all<'a>(
 {
     ask_header(file)?;
     ask_sums(file)?;
-    let tails = tails(alloc, file)?;
-    ask_strings(alloc, file, tails.as_slice())?;
+    let tails = ask_strings(alloc, file)?;
     let types = Types::new(alloc, file, tails.as_slice())?;
     ask_ids(alloc, &types, tails.as_slice())?;
     ask_classes(alloc, &types, tails.as_slice())?;

@@ -71,11 +71,11 @@ pub(crate) fn text_bytes<'a>(file: &'a [u8], i: usize) -> &'a [u8]
 }
 
 /// Which of the known texts a string is. None of them has more than 18 units, so longer ones are not read.
-fn known_text_of(file: &[u8], tails: &[Option<Tail>], i: usize) -> Known
+fn known_text_of(file: &[u8], tails: &[Tail], i: usize) -> Known
     requires tables { HasTables file.now }
     requires counted { i < count_at file.now string_ids }
     requires texts { broken_strings file.now ≡ None }
-    requires tails { AreTails file.now 0 tails.now }
+    requires tails { AreTails file.now tails.now }
     ensures { result ≡ known_of file.now i }
 {
     if string(file, tails, i).units > 18 {
@@ -93,11 +93,11 @@ fn known_text_of(file: &[u8], tails: &[Option<Tail>], i: usize) -> Known
 pub(crate) fn known_texts(
     alloc: Global,
     file: &[u8],
-    tails: &[Option<Tail>],
+    tails: &[Tail],
 ) -> Result<Vec<Known>, AllocError>
     requires tables { HasTables file.now }
     requires texts { broken_strings file.now ≡ None }
-    requires tails { AreTails file.now 0 tails.now }
+    requires tails { AreTails file.now tails.now }
     ensures { IfOk result (λ list. AreFacts (known_of file.now) (count_at file.now string_ids) list.items) }
 {
     let mut list = Vec::new(alloc);

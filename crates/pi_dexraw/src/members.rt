@@ -41,20 +41,20 @@ fn rises(file: &[u8], table: usize, i: usize) -> bool
 }
 
 /// Whether a string is the name of a member.
-fn names_member(file: &[u8], tails: &[Option<Tail>], i: usize) -> bool
+fn names_member(file: &[u8], tails: &[Tail], i: usize) -> bool
     requires tables { HasTables file.now }
     requires counted { i < count_at file.now string_ids }
-    requires tails { AreTails file.now 0 tails.now }
+    requires tails { AreTails file.now tails.now }
     ensures { result ≡ is_member_name (string_units file.now i) }
 {
     is_member_name(string(file, tails, i))
 }
 
 /// Whether a string has a `<`.
-fn has_angle(file: &[u8], tails: &[Option<Tail>], i: usize) -> bool
+fn has_angle(file: &[u8], tails: &[Tail], i: usize) -> bool
     requires tables { HasTables file.now }
     requires counted { i < count_at file.now string_ids }
-    requires tails { AreTails file.now 0 tails.now }
+    requires tails { AreTails file.now tails.now }
     ensures { result ≡ list_any (λ u. u == 60) (string_units file.now i) }
 {
     string(file, tails, i).has_angle
@@ -73,15 +73,10 @@ fn is_special(alloc: Global, file: &[u8], i: usize) -> Result<bool, AllocError>
 }
 
 /// Whether a string is the name of a method: one with `<` is that of a constructor or an initialiser.
-fn names_method(
-    alloc: Global,
-    file: &[u8],
-    tails: &[Option<Tail>],
-    i: usize,
-) -> Result<bool, AllocError>
+fn names_method(alloc: Global, file: &[u8], tails: &[Tail], i: usize) -> Result<bool, AllocError>
     requires tables { HasTables file.now }
     requires counted { i < count_at file.now string_ids }
-    requires tails { AreTails file.now 0 tails.now }
+    requires tails { AreTails file.now tails.now }
     ensures { IfOk result (λ r. r ≡ is_method_name (string_units file.now i)) }
 {
     if !names_member(file, tails, i) {
@@ -94,9 +89,9 @@ fn names_method(
 }
 
 /// Whether a field fits.
-fn fits_field(types: &Types<'_>, tails: &[Option<Tail>], i: usize) -> bool
+fn fits_field(types: &Types<'_>, tails: &[Tail], i: usize) -> bool
     requires counted { i < count_at types.now field_ids }
-    requires tails { AreTails types.now 0 tails.now }
+    requires tails { AreTails types.now tails.now }
     ensures { result ≡ field_fits types.now (member_entry types.now field_ids i) }
 {
     let file = types.file();
@@ -113,17 +108,17 @@ fn fits_field(types: &Types<'_>, tails: &[Option<Tail>], i: usize) -> bool
 }
 
 /// Whether a field fits and is behind the one before it.
-fn holds_field(types: &Types<'_>, tails: &[Option<Tail>], i: usize) -> bool
+fn holds_field(types: &Types<'_>, tails: &[Tail], i: usize) -> bool
     requires counted { i < count_at types.now field_ids }
-    requires tails { AreTails types.now 0 tails.now }
+    requires tails { AreTails types.now tails.now }
     ensures { result ≡ field_holds types.now i }
 {
     fits_field(types, tails, i) && rises(types.file(), FIELD_IDS, i)
 }
 
 /// X15: fields fit and rise.
-pub(crate) fn fields_rule(types: &Types<'_>, tails: &[Option<Tail>]) -> Option<u32>
-    requires { AreTails types.now 0 tails.now }
+pub(crate) fn fields_rule(types: &Types<'_>, tails: &[Tail]) -> Option<u32>
+    requires { AreTails types.now tails.now }
     ensures { result ≡ broken_fields types.now }
 {
     let file = types.file();
@@ -139,11 +134,11 @@ pub(crate) fn fields_rule(types: &Types<'_>, tails: &[Option<Tail>]) -> Option<u
 fn fits_method(
     alloc: Global,
     types: &Types<'_>,
-    tails: &[Option<Tail>],
+    tails: &[Tail],
     i: usize,
 ) -> Result<bool, AllocError>
     requires counted { i < count_at types.now method_ids }
-    requires tails { AreTails types.now 0 tails.now }
+    requires tails { AreTails types.now tails.now }
     ensures { IfOk result (λ r. r ≡ method_fits types.now (member_entry types.now method_ids i)) }
 {
     let file = types.file();
@@ -163,11 +158,11 @@ fn fits_method(
 fn holds_method(
     alloc: Global,
     types: &Types<'_>,
-    tails: &[Option<Tail>],
+    tails: &[Tail],
     i: usize,
 ) -> Result<bool, AllocError>
     requires counted { i < count_at types.now method_ids }
-    requires tails { AreTails types.now 0 tails.now }
+    requires tails { AreTails types.now tails.now }
     ensures { IfOk result (λ r. r ≡ method_holds types.now i) }
 {
     if !fits_method(alloc, types, tails, i)? {
@@ -180,9 +175,9 @@ fn holds_method(
 pub(crate) fn methods_rule(
     alloc: Global,
     types: &Types<'_>,
-    tails: &[Option<Tail>],
+    tails: &[Tail],
 ) -> Result<Option<u32>, AllocError>
-    requires { AreTails types.now 0 tails.now }
+    requires { AreTails types.now tails.now }
     ensures { IfOk result (λ r. r ≡ broken_methods types.now) }
 {
     let file = types.file();
