@@ -17,7 +17,7 @@ use Rattle.pi_codeitem.specs.Shared.{item_bytes, takes_words}
 use Rattle.pi_dex.specs.Judged.{code_place}
 use Rattle.pi_dex.specs.Shared.{offsets_in, offsets_from, code_offsets, AreCodes, item_place, words_place, lowest_words}
 use Rattle.pi_format.proofs.Loops.{lower_assoc}
-use Rattle.pi_dex.proofs.Lowest.{of_append, drop_at, of_both, from_both, of_same, from_same, same_lowest}
+use Rattle.pi_dex.proofs.Lowest.{same_default, of_append, drop_at, of_both, from_both, of_same, from_same, same_lowest}
 
 -- the lowest place of methods by their code items is that of these
 in_rows : (place : ℕ → Option ℕ) (rows : List MemberRow)
@@ -63,11 +63,6 @@ stays_lowest file at (y ∷ ys) above =
     sym (lower_assoc (Some at) (item_place file y) (lowest_of (item_place file) ys))
     ∙ ap (λ o. lower o (lowest_of (item_place file) ys)) (no_lower at y (is_some (item_bytes file y)) (above 0 at (omega arith)))
     ∙ stays_lowest file at ys (λ k d lt. above (suc k) d (omega arith))
-
-same_default : (xs : List ℕ) (j a b : ℕ) → j < length xs → get_or xs j a ≡ get_or xs j b
-same_default [] j a b lt = absurd (omega arith)
-same_default (x ∷ xs) zero a b lt = refl
-same_default (x ∷ xs) (suc j) a b lt = same_default xs j a b (omega arith)
 
 later : (codes : List ℕ) (i at : ℕ) → IsStrictlyIncreasing codes → i < length codes → at ≡ get_or codes i at → All (λ y. at ≤ y) (drop (i + 1) codes)
 later codes i at rise lt is k d l =

@@ -18,6 +18,12 @@ pub of_append : {A : Type 0} (place : A → Option ℕ) (xs ys : List A) → low
 of_append place [] ys = refl
 of_append place (x ∷ xs) ys = ap (lower (place x)) (of_append place xs ys) ∙ sym (lower_assoc (place x) (lowest_of place xs) (lowest_of place ys))
 
+-- an element that is there is none of a default
+pub same_default : (xs : List ℕ) (j a b : ℕ) → j < length xs → get_or xs j a ≡ get_or xs j b
+same_default [] j a b lt = absurd (omega arith)
+same_default (x ∷ xs) zero a b lt = refl
+same_default (x ∷ xs) (suc j) a b lt = same_default xs j a b (omega arith)
+
 -- what stands behind i elements begins with the next one
 pub drop_at : {A : Type 0} (xs : List A) (i : ℕ) (x : A) → i < length xs → x ≡ get_or xs i x → drop i xs ≡ x ∷ drop (i + 1) xs
 drop_at xs i x lt is = drop_more xs i x lt ∙ ap (λ y. y ∷ drop (i + 1) xs) (sym is)

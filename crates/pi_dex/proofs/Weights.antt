@@ -1,6 +1,9 @@
 -- Sums of what a file brings, one thing after another.
-use Rattle.std.proofs.Common.{◌≡◌, ℕ, zero, suc, ◌+◌, ◌-◌, ◌<◌, ◌≤◌, List, [], ◌∷◌, length, drop, get_or, map, Some, refl, sym, ap, ◌∙◌, arith, subst}
-use Rattle.std.specs.Prelude.{sum_by, slice_get}
+use Rattle.std.proofs.Common.{◌≡◌, ℕ, zero, suc, ◌+◌, ◌-◌, ◌<◌, ◌≤◌, Bool, true, false, nat_lt, List, [], ◌∷◌, length, drop, get_or, map, Some, refl, sym, ap, ◌∙◌, arith}
+use Rattle.std.specs.Prelude.{◌==◌, cond, sum_by, slice_get}
+use Rattle.std.specs.List.{HoldsAt}
+use Rattle.std.specs.Ordering.{Less, Equal, Greater, nat_cmp}
+use Rattle.std.proofs.lemmas.Bool.Decides.{nat_tests}
 use Rattle.std.proofs.Math.ListN.{drop_of_length-le}
 use Rattle.std.proofs.lemmas.List.{drop_more}
 use Rattle.std.proofs.lemmas.List.Sums.{sum_by-drop_more, sum_by-cons}
@@ -16,6 +19,35 @@ sum_goes f total xs i x lt is =
 
 pub sum_ends : {A : Type 0} (f : A → ℕ) (total : ℕ) (xs : List A) (i : ℕ) → length xs ≤ i → total + sum_by f (drop i xs) ≡ total
 sum_ends f total xs i le = rw (drop_of_length-le xs le) (omega arith)
+
+-- one more of them, by the way in which a walk lends its pieces
+pub piece_goes : {A : Type 0} (f : A → ℕ) (total : ℕ) (xs : List A) (i : ℕ) (x : A) → slice_get xs i ≡ Some x
+    → (total + f x) + sum_by f (drop (i + 1) xs) ≡ total + sum_by f (drop i xs)
+piece_goes f total [] i x e = cc
+piece_goes f total (y ∷ ys) zero x e =
+    let is : y ≡ x = cc in
+    omega (arith, sum_by-cons f y ys, ap f is)
+piece_goes f total (y ∷ ys) (suc i) x e = piece_goes f total ys i x e
+
+-- what is known of a code item that was searched for
+pub known_weight : (w : ℕ → ℕ) (codes weights : List ℕ) (k at : ℕ) → weights ≡ map w codes → k < length codes → HoldsAt (λ y. nat_cmp y at ≡ Equal) codes k
+    → get_or weights k 0 ≡ w at
+known_weight w codes weights k at are lt found =
+    let same : get_or codes k 0 ≡ at = equal (get_or codes k 0) at (found 0) in
+    ap (λ (xs : List ℕ). get_or xs k 0) are ∙ mapped codes k lt ∙ ap w same
+  where
+    equal : (a b : ℕ) → nat_cmp a b ≡ Equal → a ≡ b
+    equal a b e = by_test (nat_lt a b) refl (a == b) refl e
+      where
+        by_test : (t : Bool) → nat_lt a b ≡ t → (u : Bool) → (a == b) ≡ u → cond t Less (cond u Equal Greater) ≡ Equal → a ≡ b
+        by_test true l u m e = cc
+        by_test false l true m e = grind (arith, nat_tests)
+        by_test false l false m e = cc
+
+    mapped : (xs : List ℕ) (j : ℕ) → j < length xs → get_or (map w xs) j 0 ≡ w (get_or xs j 0)
+    mapped [] j lt = absurd (omega arith)
+    mapped (x ∷ xs) zero lt = refl
+    mapped (x ∷ xs) (suc j) lt = mapped xs j (omega arith)
 
 -- one more number
 pub number_goes : (f : ℕ → ℕ) (total i n : ℕ) → i < n

@@ -3,7 +3,7 @@ use Rattle.std.specs.Prelude.{◌≡◌, ◌≢◌, ◌⊎◌, ◌<◌, ◌^◌,
 use Rattle.std.specs.List.{All}
 use Rattle.pi_format.specs.Tables.{count_at, string_ids, type_ids, field_ids, method_ids}
 use Rattle.pi_format.specs.Rules.Header.{unless}
-use Rattle.pi_format.specs.Rules.Lowest.{lower, lowest_of}
+use Rattle.pi_format.specs.Rules.Lowest.{lower}
 use Rattle.pi_format.specs.Rules.Rows.{MemberRow}
 use Rattle.pi_format.specs.Rules.ClassData.{ClassRows}
 use Rattle.pi_format.specs.Rules.CodeItems.{of_code, code_lies, code_lists, code_holds, argument_words}
@@ -38,13 +38,6 @@ no_faults = record { walk = None; index = None; payload = None }
 
 abbrev pub both_faults : Faults → Faults → Faults
 both_faults f g = record { walk = lower f.walk g.walk; index = lower f.index g.index; payload = lower f.payload g.payload }
-
-abbrev pub faults_of : List ℕ → List ℕ → Faults
-faults_of file codes = record {
-  walk = lowest_of (walk_place file) codes;
-  index = lowest_of (index_place file) codes;
-  payload = lowest_of (payload_place file) codes;
-}
 
 -- a code item says a code: it is in the file, its lists of handlers hold, and its indices are in range
 pub record SaysCode (file : List ℕ) (at : ℕ) : Type 0 where

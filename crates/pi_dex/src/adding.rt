@@ -25,7 +25,7 @@ use pi_said::{said_fits, said_has_room};
 use std::alloc::{AllocError, Global};
 
 /// Rules X18 to X23, of a file whose members were read. The answer is the code items of its methods.
-#[tactic(auto, using(crate::proofs::Told::fault_told), unfolding(pi_format::specs::Rules::broken_content_rule))]
+#[tactic(auto, unfolding(pi_format::specs::Rules::broken_content_rule))]
 fn ask_content(
     alloc: Global,
     raw: &Raw<'_>,

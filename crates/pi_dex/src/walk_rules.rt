@@ -1,10 +1,9 @@
 // Rules X21 to X23 on the units of all code items, each of which is walked once.
 
 ghost use Rattle.std.specs.Prelude.{◌≡◌, None, true, IfOk};
-ghost use Rattle.std.specs.List.{All};
 ghost use Rattle.pi_format.specs.Rules.CodeItems.{code_lies, broken_code};
 ghost use Rattle.pi_format.specs.Rules.Pieces.{broken_walk, broken_index, broken_payload};
-ghost use Rattle.pi_dex.specs.Judged.{no_faults, both_faults, code_faults, faults_of};
+ghost use Rattle.pi_dex.specs.Judged.{no_faults, both_faults, code_faults};
 ghost use Rattle.pi_dex.specs.Shared.{AreCodes};
 
 use crate::places::unit_place;
@@ -62,20 +61,8 @@ fn code_faults(alloc: Global, raw: &Raw<'_>, at: u32) -> Result<Faults, AllocErr
     })
 }
 
-/// The faults of code items one after the other.
-#[tactic(auto, using(crate::proofs::Faults::faults_go, crate::proofs::Faults::faults_end))]
-fn all_faults(alloc: Global, raw: &Raw<'_>, codes: &[u32]) -> Result<Faults, AllocError>
-    requires { All (λ at. code_lies raw.now at ≡ true) codes.now }
-    ensures { IfOk result (λ f. f ≡ faults_of raw.now codes.now) }
-{
-    let mut lowest = Faults::none();
-    for i in 0..codes.len() {
-        lowest = lowest.both(code_faults(alloc, raw, codes[i])?);
-    }
-    Ok(lowest)
-}
-
 /// X21 to X23: from unit 0 on there are instructions and payloads, indices are in range, and payloads fit.
+#[tactic(auto, using(crate::proofs::Faults::faults_go, crate::proofs::Faults::faults_end))]
 pub(crate) fn walk_rules(
     alloc: Global,
     raw: &Raw<'_>,
@@ -87,5 +74,9 @@ pub(crate) fn walk_rules(
     ensures index { IfOk result (λ f. f.index ≡ broken_index raw.now) }
     ensures payload { IfOk result (λ f. f.payload ≡ broken_payload raw.now) }
 {
-    all_faults(alloc, raw, codes)
+    let mut lowest = Faults::none();
+    for i in 0..codes.len() {
+        lowest = lowest.both(code_faults(alloc, raw, codes[i])?);
+    }
+    Ok(lowest)
 }

@@ -9,7 +9,7 @@ ghost use Rattle.pi_format.specs.Tables.{count_at, class_defs, method_ids};
 ghost use Rattle.pi_format.specs.Rules.{broken_content_rule};
 ghost use Rattle.pi_format.specs.Rules.Lowest.{tabulation};
 ghost use Rattle.pi_format.specs.Rules.ClassData.{rows_of};
-ghost use Rattle.pi_format.specs.Rules.CodeItems.{code_head, code_lies, code_lists};
+ghost use Rattle.pi_format.specs.Rules.CodeItems.{code_head, code_lies, code_lists, ranges_hold};
 ghost use Rattle.pi_format.specs.Rules.Pieces.{index_holds, payload_units, payload_of};
 ghost use Rattle.pi_dexcode.specs.Whole.{NamesIndex};
 ghost use Rattle.pi_dex.specs.Judged.{SaysCode, SaysMethod};
@@ -137,14 +137,14 @@ fn with_range(
 ) -> Result<u32, AllocError>
     requires total { total ≤ most_bytes }
     requires small { at < 2 ^ 32 }
+    requires file { length file.now ≤ most_bytes }
     requires lies { code_lies file.now at ≡ true }
     requires head { head.now ≡ code_head file.now at }
-    requires lists { code_lists file.now at ≡ Some lists.now }
+    requires hold { ranges_hold file.now at head.now ≡ true }
     requires counted { k < head.now.tries }
     ensures sum { IfOk result (λ sum. sum ≡ total + range_handlers file.now at head.now lists.now k) }
     ensures most { IfOk result (λ sum. sum ≤ most_bytes) }
 {
-    ranges_stand();
     let place = lists_at(at, head) + try_range(file, at, k).handlers as usize;
     match lists.find(place as u32) {
         None => Ok(total),
@@ -163,12 +163,15 @@ fn with_ranges(
 ) -> Result<u32, AllocError>
     requires total { total ≤ most_bytes }
     requires small { at < 2 ^ 32 }
+    requires file { length file.now ≤ most_bytes }
     requires lies { code_lies file.now at ≡ true }
     requires head { head.now ≡ code_head file.now at }
     requires lists { code_lists file.now at ≡ Some lists.now }
     ensures sum { IfOk result (λ sum. sum ≡ total + all_handlers file.now at head.now (Some lists.now)) }
     ensures most { IfOk result (λ sum. sum ≤ most_bytes) }
 {
+    // where there are lists, the ranges hold
+    ranges_stand();
     let mut sum = total;
     for k in 0..head.tries as usize {
         sum = with_range(file, at, head, lists, sum, k)?;
