@@ -54,12 +54,38 @@ def short(ty):
     return 'L' if ty[0] in 'L[' else ty
 
 
-class Code:
-    """The code of a method: units, and ranges (first, count, handlers), where handlers is (typed pairs, last)."""
+def once(things):
+    """Each object once, in the order in which they come. Objects that are equal and not the same stay beside each other."""
+    return list({id(thing): thing for thing in things}.values())
 
-    def __init__(self, registers, ins, outs, units, tries=(), extra_lists=(), debug=0):
+
+class Code:
+    """The code of a method: units, and ranges (first, count, handlers), where handlers is (typed pairs, last).
+
+    Ranges with equal handlers have one list. A code that is shared is written once for all methods that have it, and any
+    other once for each of them."""
+
+    def __init__(self, registers, ins, outs, units, tries=(), extra_lists=(), debug=0, shared=False):
         self.registers, self.ins, self.outs, self.units = registers, ins, outs, units
-        self.tries, self.extra_lists, self.debug = list(tries), list(extra_lists), debug
+        self.tries, self.extra_lists, self.debug, self.shared = list(tries), list(extra_lists), debug, shared
+
+    def lists(self):
+        """The lists of handlers, each object once."""
+        return once([handlers for _, _, handlers in self.tries] + self.extra_lists)
+
+
+class Block:
+    """Bytes that stand among the code items as they are, in which items may lie one over the other."""
+
+    def __init__(self, content):
+        self.content = content
+
+
+class CodeAt:
+    """The code of a method is at a place in a block, or, without a block, at a place in the file. It names nothing."""
+
+    def __init__(self, place, block=None):
+        self.place, self.block = place, block
 
 
 class Method:
@@ -95,17 +121,11 @@ class File:
             for f in c.statics:
                 if f.value is not None and f.value[0] in ('string', 'type'):
                     yield (f.value[0], f.value[1])
-            for m in c.directs + c.virtuals:
-                if m.code:
-                    for u in m.code.units:
-                        if isinstance(u, tuple):
-                            yield u
-                    for _, _, (typed, _) in m.code.tries:
-                        for ty, _ in typed:
-                            yield ('type', ty)
-                    for typed, _ in m.code.extra_lists:
-                        for ty, _ in typed:
-                            yield ('type', ty)
+        for code in once(m.code for c in self.classes for m in c.directs + c.virtuals if isinstance(m.code, Code)):
+            yield from once(u for u in code.units if isinstance(u, tuple))
+            for typed, _ in code.lists():
+                for ty in {ty for ty, _ in typed}:
+                    yield ('type', ty)
 
     def collect(self):
         strings, types, protos, fields, methods = set(self.extra_strings), set(self.extra_types), set(), set(), set()
@@ -115,11 +135,12 @@ class File:
             types.add(c.name)
             if c.parent:
                 types.add(c.parent)
-            types.update(c.faces)
             for f in c.statics + c.instances:
                 fields.add((c.name, f.name, f.ty))
             for m in c.directs + c.virtuals:
                 methods.add((c.name, m.name, m.params, m.ret))
+        for faces in once(c.faces for c in self.classes):
+            types.update(faces)
         for what in self.named():
             kind = what[0].rstrip('32')
             if kind == 'string':
@@ -165,10 +186,10 @@ class File:
         return self.method_no[what[1:]]
 
     def code_units(self, code):
-        out = []
+        out, numbers = [], {id(u): self.number(u) for u in once(u for u in code.units if isinstance(u, tuple))}
         for u in code.units:
             if isinstance(u, tuple):
-                n = self.number(u)
+                n = numbers[id(u)]
                 out.append(n & 0xFFFF)
                 if u[0] == 'string32':
                     out.append(n >> 16)
@@ -176,35 +197,33 @@ class File:
                 out.append(u & 0xFFFF)
         return out
 
-    def code_item(self, code, name):
-        units = self.code_units(code)
-        lists, at, starts = [], {}, bytearray()
-        all_lists = [h for _, _, h in code.tries] + code.extra_lists
-        for h in all_lists:
-            key = (tuple(h[0]), h[1])
-            if key not in at:
-                at[key] = None
-                lists.append(key)
-        body = bytearray(uleb(len(lists)))
-        for typed, last in lists:
-            at[(typed, last)] = len(body)
-            body += sleb(-len(typed) if last is not None else len(typed))
-            for ty, to in typed:
-                body += uleb(self.type_no[ty]) + uleb(to)
+    def lists_of(self, code):
+        """The bytes of a code's lists of handlers, and where the list of each object stands among them."""
+        listed = {id(handlers): (tuple(handlers[0]), handlers[1]) for handlers in code.lists()}
+        distinct = dict.fromkeys(listed.values())
+        body = bytearray(uleb(len(distinct)))
+        for typed, last in distinct:
+            distinct[typed, last] = len(body)
+            pairs = {pair: uleb(self.type_no[pair[0]]) + uleb(pair[1]) for pair in set(typed)}
+            body += sleb(-len(typed) if last is not None else len(typed)) + b''.join(pairs[pair] for pair in typed)
             if last is not None:
                 body += uleb(last)
+        return body, {which: distinct[handlers] for which, handlers in listed.items()}
+
+    def code_item(self, code):
+        """The bytes of a code item, and where in it its ranges and its lists of handlers stand where it has ranges."""
+        units = self.code_units(code)
         out = bytearray(struct.pack('<HHHHII', code.registers, code.ins, code.outs, len(code.tries), code.debug, len(units)))
         out += struct.pack('<%dH' % len(units), *units)
-        self.places[name + ' lists'] = None
-        if code.tries:
-            if len(units) % 2:
-                out += b'\xab\xcd'
-            self.places[name + ' tries'] = len(out)
-            for first, count, h in code.tries:
-                out += struct.pack('<IHH', first, count, at[(tuple(h[0]), h[1])])
-            self.places[name + ' lists'] = len(out)
-            out += body
-        return bytes(out)
+        if not code.tries:
+            return bytes(out), {}
+        if len(units) % 2:
+            out += b'\xab\xcd'
+        tries, (body, at) = len(out), self.lists_of(code)
+        for first, count, handlers in code.tries:
+            out += struct.pack('<IHH', first, count, at[id(handlers)])
+        lists = len(out)
+        return bytes(out + body), {' tries': tries, ' lists': lists}
 
     def value(self, field):
         v = field.value
@@ -233,32 +252,49 @@ class File:
             while here() % 4:
                 data.append(0)
 
+        kept = {}
+
+        def code_place(code):
+            """Where the code of a method stands, which is written unless it is shared and stands there already."""
+            if isinstance(code, CodeAt) and code.block is None:
+                return code.place, {}
+            what = code.block if isinstance(code, CodeAt) else code
+            if id(what) in kept:
+                place, parts = kept[id(what)]
+            else:
+                align()
+                place = here()
+                item, parts = (what.content, {}) if isinstance(what, Block) else self.code_item(what)
+                data.extend(item)
+                if isinstance(what, Block) or what.shared:
+                    kept[id(what)] = place, parts
+            return place + code.place if isinstance(code, CodeAt) else place, parts
+
         code_at = {}
         align()
         first = here()
         for c in self.classes:
             for m in c.directs + c.virtuals:
                 if m.code:
-                    align()
                     name = c.name + '->' + m.name
-                    code_at[(c.name, m.name, m.params, m.ret)] = here()
-                    self.places[name] = here()
-                    item = self.code_item(m.code, name)
-                    for part in (' tries', ' lists'):
-                        if self.places.get(name + part) is not None:
-                            self.places[name + part] += here()
-                    data += item
-        if code_at:
-            items.append((0x2001, len(code_at), first))
-        lists = {}
+                    place, parts = code_place(m.code)
+                    code_at[(c.name, m.name, m.params, m.ret)] = place
+                    self.places[name] = place
+                    for part, behind in parts.items():
+                        self.places[name + part] = place + behind
+        count = len({place for place in code_at.values() if first <= place < here()})
+        if count:
+            items.append((0x2001, count, first))
+        lists, list_at = {}, {}
         wanted = [ps for ps, _ in self.protos if ps] + [c.faces for c in self.classes if c.faces]
         align()
         first = here()
-        for ts in wanted:
+        for ts in once(wanted):
             if ts not in lists:
                 align()
                 lists[ts] = here()
                 data += struct.pack('<I', len(ts)) + struct.pack('<%dH' % len(ts), *[self.type_no[t] for t in ts])
+            list_at[id(ts)] = lists[ts]
         if lists:
             items.append((0x1001, len(lists), first))
         string_at = []
@@ -329,7 +365,7 @@ class File:
         for t in self.types:
             ids += struct.pack('<I', self.string_no[t])
         for ps, r in self.protos:
-            ids += struct.pack('<III', self.string_no[short(r) + ''.join(short(p) for p in ps)], self.type_no[r], lists.get(ps, 0))
+            ids += struct.pack('<III', self.string_no[short(r) + ''.join(short(p) for p in ps)], self.type_no[r], list_at.get(id(ps), 0))
         for c, n, t in self.fields:
             ids += struct.pack('<HHI', self.type_no[c], self.type_no[t], self.string_no[n])
         for c, n, ps, r in self.methods:
@@ -337,7 +373,7 @@ class File:
         for i, c in enumerate(self.classes):
             self.places[c.name + ' def'] = offsets[5] + 32 * i
             parent = self.type_no[c.parent] if c.parent else 0xFFFFFFFF
-            ids += struct.pack('<8I', self.type_no[c.name], c.flags, parent, lists.get(c.faces, 0) if c.faces else 0, c.source,
+            ids += struct.pack('<8I', self.type_no[c.name], c.flags, parent, list_at.get(id(c.faces), 0), c.source,
                                c.annotations, data_at.get(c.name, 0), values_at.get(c.name, 0))
         size = begin + len(data)
         head = bytearray(112)
@@ -348,6 +384,25 @@ class File:
             struct.pack_into('<II', head, 56 + 8 * k, n, o if n else 0)
         struct.pack_into('<II', head, 104, len(data), begin)
         return sign(head + ids + data)
+
+
+class Texts:
+    """A file of strings alone, whose texts lie as they do in the given bytes: where in them each of the strings begins."""
+
+    def __init__(self, data, starts):
+        self.data, self.starts = data, starts
+
+    def write(self):
+        begin = 112 + 4 * len(self.starts)
+        data = bytearray(self.data) + bytes(-len(self.data) % 4)
+        map_at = begin + len(data)
+        data += struct.pack('<I', 2) + struct.pack('<HHII', 0, 0, 1, 0) + struct.pack('<HHII', 1, 0, len(self.starts), 112)
+        head = bytearray(112)
+        head[0:8] = b'dex\n035\0'
+        struct.pack_into('<III', head, 32, begin + len(data), 112, 0x12345678)
+        struct.pack_into('<III', head, 52, map_at, len(self.starts), 112)
+        struct.pack_into('<II', head, 104, len(data), begin)
+        return sign(head + struct.pack('<%dI' % len(self.starts), *[begin + start for start in self.starts]) + data)
 
 
 def sign(file):

@@ -2,32 +2,44 @@
 
 Makes valid files of 2, 4, 8 and 16 MiB, runs `PROGRAM lazy FILE MAIN STEPS` on each of them in the folder where the file
 lies, and prints a table. A row has the size of the file in MiB, the least time of several runs in seconds, the most memory
-that was resident in MiB, and how many times the time of the file of half the size that is.
+that was resident in MiB, how many times the time of the file of half the size that is, and how the runs ended.
 
     python3 bench/performance.py [PROGRAM] [--shape SHAPE] [--sizes MIB ..] [--runs N] [--keep FOLDER] [--make]
 
-PROGRAM is crates/pi_tool/out/pi_tool where none is given. The shape is `mixed` where none is named; `all` stands for every
-shape. A shape and a size make the same file each time. The files are valid and not small, so the program has to end with
-the status 19 and the line `not built`. With --keep the files stay in a folder, and with --make nothing is run.
+PROGRAM is crates/pi_tool/out/pi_tool where none is given. The shape is `mixed` where none is named; `hostile` stands for
+those of bench/hostile.py, and `all` for every shape. A shape and a size make the same file each time. With --keep the files
+stay in a folder, and with --make nothing is run.
 
-It ends with 1 where a run ends in another way, where a file takes more than 2.3 times as long as that of half its size, or
-where that of 16 MiB needs 1.5 GiB or more; and else with 0.
+The files are valid and not small, so the program has to end with the status 19 and the line `not built`, or for want of
+memory with the status 18 and the line `out of memory`. It is given 4 GiB of memory and a minute, and stopped where it takes
+more of either.
+
+It ends with 1 where a run ends in another way, where a file takes ten seconds or needs 768 MiB or more, or where it takes
+more than 2.3 times as long as that of half its size and both ended alike; and else with 0.
 """
 
 import argparse
 import os
+import resource
+import signal
 import subprocess
 import sys
 import tempfile
+import threading
 import time
 
 from dexfile import Class, Code, Field, File, Method
+from hostile import HOSTILE
 
 MIB = 1 << 20
-MOST_BYTES = 16 * MIB
 MOST_RATIO = 2.3
-MOST_RESIDENT = 1536 * MIB
-STATUS, LINE = 19, b'not built\n'
+MOST_RESIDENT = 768 * MIB
+MOST_SECONDS = 10
+# What a run is given, more than it may take by the bounds, so that it is seen by how much they are broken.
+GIVEN_SPACE = 4096 * MIB
+GIVEN_SECONDS = 60
+# How a run may end: its status and its line, and what the table says.
+ENDS = {(19, b'not built\n'): 'not built', (18, b'out of memory\n'): 'out of memory'}
 MAIN, STEPS = 'Lmain/Main;', '1000'
 
 OBJECT, STRING = 'Ljava/lang/Object;', 'Ljava/lang/String;'
@@ -233,6 +245,7 @@ SHAPES = {
     'invokes': invokes,
     'interfaces': interfaces,
     'fields': fields,
+    **HOSTILE,
 }
 
 
@@ -248,20 +261,36 @@ def file_of(shape, size):
         count -= max(1, count * (len(data) - size) // size)
 
 
+def limit():
+    """Gives the program so much memory, which is no more for what it was started from."""
+    resource.setrlimit(resource.RLIMIT_AS, (GIVEN_SPACE, GIVEN_SPACE))
+    resource.setrlimit(resource.RLIMIT_CORE, (0, 0))
+
+
+def end_of(status, said, seconds):
+    """How a run ended, in words."""
+    if os.WIFEXITED(status):
+        return ENDS.get((os.WEXITSTATUS(status), said)) or 'status %d, %r' % (os.WEXITSTATUS(status), said[:60])
+    if seconds >= GIVEN_SECONDS:
+        return 'no end in %d seconds' % GIVEN_SECONDS
+    return 'signal %s' % signal.Signals(os.WTERMSIG(status)).name
+
+
 def run_once(program, path):
-    """The seconds and the most resident bytes of one run, after a look at how it ended."""
+    """The seconds and the most resident bytes of one run, and how it ended."""
     with tempfile.TemporaryFile() as err:
         begin = time.perf_counter()
         command = [program, 'lazy', os.path.basename(path), MAIN, STEPS]
-        child = subprocess.Popen(command, cwd=os.path.dirname(path), stdin=subprocess.DEVNULL, stdout=subprocess.DEVNULL, stderr=err)
+        child = subprocess.Popen(
+            command, cwd=os.path.dirname(path), stdin=subprocess.DEVNULL, stdout=subprocess.DEVNULL, stderr=err, preexec_fn=limit)
+        stop = threading.Timer(GIVEN_SECONDS, os.kill, (child.pid, signal.SIGKILL))
+        stop.start()
         _, status, usage = os.wait4(child.pid, 0)
+        stop.cancel()
         seconds = time.perf_counter() - begin
         child.returncode = status  # it was waited for
         err.seek(0)
-        said = err.read(1000)
-    if not os.WIFEXITED(status) or os.WEXITSTATUS(status) != STATUS or said != LINE:
-        sys.exit('%s: ended with %d and %r' % (path, status, said))
-    return seconds, usage.ru_maxrss * 1024
+        return seconds, usage.ru_maxrss * 1024, end_of(status, err.read(1000), seconds)
 
 
 def path_of(folder, shape, size):
@@ -282,26 +311,35 @@ def make_apart(shape, sizes, folder):
 
 
 def measure(program, shape, sizes, folder, runs):
-    """For each size the least seconds and the most resident bytes. The sizes take turns, so that a busy machine is as slow
-    for each of them."""
-    best = {size: (float('inf'), 0) for size in sizes}
+    """For each size the least seconds, the most resident bytes, and how its last run ended. The sizes take turns, so that a
+    busy machine is as slow for each of them. One whose run ended as none may is not run again."""
+    best = {size: (float('inf'), 0, 'not built') for size in sizes}
     for _ in range(runs):
         for size in sizes:
-            seconds, resident = run_once(program, path_of(folder, shape, size))
-            best[size] = (min(best[size][0], seconds), max(best[size][1], resident))
+            least, most, end = best[size]
+            if end in ENDS.values():
+                seconds, resident, end = run_once(program, path_of(folder, shape, size))
+                best[size] = min(least, seconds), max(most, resident), end
     return best
 
 
 def broken_bounds(shape, best):
     """Prints what was measured of a shape, and says which bounds it breaks."""
     broken = []
-    for size, (seconds, resident) in best.items():
-        ratio = seconds / best[size / 2][0] if size / 2 in best else None
-        print('%-12s %4d %9.3f %9.0f %6s' % (shape, size, seconds, resident / MIB, '%.2f' % ratio if ratio else ''), flush=True)
+    for size, (seconds, resident, end) in best.items():
+        half = best.get(size / 2)
+        ratio = seconds / half[0] if half and half[2] == end and end in ENDS.values() else None
+        row = shape, size, seconds, resident / MIB, '%.2f' % ratio if ratio else '', end
+        print('%-17s %4d %9.3f %9.0f %6s  %s' % row, flush=True)
+        what = '%s: %d MiB ' % (shape, size)
+        if end not in ENDS.values():
+            broken.append(what + 'end with ' + end)
         if ratio and ratio > MOST_RATIO:
-            broken.append('%s: %d MiB take %.2f times the time of %d MiB' % (shape, size, ratio, size // 2))
-        if size == 16 and resident >= MOST_RESIDENT:
-            broken.append('%s: 16 MiB need %.0f MiB of memory' % (shape, resident / MIB))
+            broken.append(what + 'take %.2f times the time of %d MiB' % (ratio, size // 2))
+        if seconds >= MOST_SECONDS:
+            broken.append(what + 'take %.1f seconds' % seconds)
+        if resident >= MOST_RESIDENT:
+            broken.append(what + 'need %.0f MiB of memory' % (resident / MIB))
     return broken
 
 
@@ -309,13 +347,13 @@ def main():
     here = os.path.dirname(os.path.abspath(__file__))
     parser = argparse.ArgumentParser(description=__doc__.split('\n')[0])
     parser.add_argument('program', nargs='?', default=os.path.join(here, '..', 'crates', 'pi_tool', 'out', 'pi_tool'))
-    parser.add_argument('--shape', default='mixed', choices=list(SHAPES) + ['all'])
+    parser.add_argument('--shape', default='mixed', choices=list(SHAPES) + ['hostile', 'all'])
     parser.add_argument('--sizes', nargs='+', type=int, default=[2, 4, 8, 16], choices=range(1, 17), metavar='MIB')
     parser.add_argument('--runs', type=int, default=5)
     parser.add_argument('--keep', metavar='FOLDER')
     parser.add_argument('--make', action='store_true')
     given = parser.parse_args()
-    shapes = list(SHAPES) if given.shape == 'all' else [given.shape]
+    shapes = list({'all': SHAPES, 'hostile': HOSTILE}.get(given.shape, [given.shape]))
     program = os.path.abspath(given.program)
     sizes = sorted(set(given.sizes))
     broken = []
@@ -323,7 +361,7 @@ def main():
         folder = os.path.abspath(given.keep) if given.keep else scratch
         os.makedirs(folder, exist_ok=True)
         if not given.make:
-            print('%-12s %4s %9s %9s %6s' % ('shape', 'MiB', 'seconds', 'resident', 'ratio'), flush=True)
+            print('%-17s %4s %9s %9s %6s  %s' % ('shape', 'MiB', 'seconds', 'resident', 'ratio', 'end'), flush=True)
         for shape in shapes:
             if given.make:
                 make_files(shape, sizes, folder)

@@ -6,7 +6,7 @@ which is that of the files before.
 
 from dexfile import sign
 
-from . import made
+from . import made, shared
 from .made import STRING, W, alter, altered, class_text, digest, half, listed, word
 from .units import told_units
 
@@ -220,6 +220,18 @@ def rows(out):
     begin(out, 'every.dex', 'many.dex', 'five.dex')
     read_many(out, 'many members between others', every, many, five)
     large_code(out)
+    out.note('bytes that several parts share')
+    out.data('shared.dex', shared.three()[0].write())
+    begin(out, 'shared.dex')
+    read(out, 'three methods that have one code item', program(shared.three()))
+    content, *described = shared.overlapping()
+    out.row('case')
+    out.row('file', 'a.dex', '-')
+    out.row('put', 0, content.hex())
+    read(out, 'two code items that overlap', program(described))
+    for title, edits, rule, place in shared.broken_three():
+        alter(out, 'shared.dex', edits, 'sign', 'sum')
+        refused(out, 'of three methods that have one code item: ' + title, rule, place)
     out.note('one rule is broken, or two')
     for title, edits, rule, place in broken_every():
         alter(out, 'every.dex', edits)
