@@ -22,6 +22,7 @@ def rule(number, place, name='a.dex'):
 
 USAGE = (2, '', 'usage\n')
 NOT_BUILT = (19, '', 'not built\n')
+NO_MEMORY = (18, '', 'out of memory\n')
 # The worked file prints 5.
 DONE = ran('5', 11)
 

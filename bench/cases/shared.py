@@ -7,7 +7,7 @@ A broken rule is told once, with the place of the item or of the unit, however m
 
 from dexfile import Block, Class, Code, CodeAt, File, Method, uleb
 
-from .calls import NOT_BUILT
+from .calls import NOT_BUILT, NO_MEMORY
 from .made import OBJECT, half, listed, word
 
 STATIC, PRIVATE = 0x8, 0x2
@@ -99,14 +99,17 @@ def overlapping():
     return content, described([Code(1, 0, 0, head + [RETURN_VOID]), Code(0x12, 0, 0, [RETURN_VOID])]), codes
 
 
+MOST_BYTES = 16777216
+
 # Files of many methods that have one long item: the file of data/ that has the methods' entries, how many methods there
-# are, and how many units. No subject calls `large` yet: a program that keeps the instructions of each method by itself
-# cannot answer all of these. Where it keeps an item once, the rows of the top call end with `shared.large(calls)`.
+# are, and how many units.
 #
-# - 44 KB that say ten million instructions: kept for each method they take 18,000 times the file's size in memory.
+# - 25 KB that say less than a million instructions, and are read.
+# - 44 KB that say ten million: kept for each method they take 18,000 times the file's size in memory.
 # - 224 KB that say a hundred million: kept for each method they do not fit in 4 GiB.
 # - 1.1 MB that say eight thousand million: only to test the rules for each method anew takes minutes.
 LARGE = [
+    ('shared-many.dex', 1000, 800),
     ('shared-many.dex', 1000, 10000),
     ('shared-many.dex', 1000, 100000),
     ('shared-more.dex', 20000, 400000),
@@ -121,29 +124,68 @@ def many(count):
     return File([Class('LT;', 1, OBJECT)], methods=methods)
 
 
+def with_class_data(calls, source, count):
+    """A case of a file of so many methods, which all have an item that begins where the file now ends. The answer is its offset."""
+    file = many(count)
+    content = file.write()
+    assert all(method[0] == 'LT;' for method in file.methods) and len(file.methods) == count
+    calls.out.data(source, content)
+    counts = uleb(0) + uleb(0) + uleb(count) + uleb(0)
+    # each row has a byte for the method, one for its flags, and three for where the item is
+    end = len(content) + len(counts) + 5 * count
+    item = end + -end % 4
+    flags_and_item = bytes([STATIC, 0x80 | item & 0x7F, 0x80 | item >> 7 & 0x7F, item >> 14])
+    calls.case()
+    calls.words('lazy', 'a.dex', 'LT;', '99')
+    calls.file('a.dex', source)
+    calls.put(file.places['LT; def'] + 24, word(len(content)))
+    calls.put(len(content), counts + b'\0' + flags_and_item)
+    if count > 1:
+        calls.out.row('fill', count - 1, (b'\1' + flags_and_item).hex())
+    calls.put(end, bytes(item - end))
+    return item
+
+
+def run_whole(calls, title, answer):
+    for verb in ('length', 'sign', 'sum'):
+        calls.out.row(verb)
+    calls.run(title, answer)
+
+
+def brought(count, units, instructions, data):
+    """What methods bring that have one item: half of its bytes, its instructions, and the units of the data at which one of
+    them points."""
+    return count * ((16 + 2 * units) // 2 + instructions + data)
+
+
 def large(calls):
-    """Calls over these files, which are not small, so nothing is built of them. The rows add the class data, of which all
-    rows are alike but the first, and the item."""
+    """Calls over these files, which are not small, so nothing is built of the one that is read."""
     calls.out.note('many methods that have one code item')
     for source, count, units in LARGE:
-        file = many(count)
-        content = file.write()
-        assert all(method[0] == 'LT;' for method in file.methods) and len(file.methods) == count
-        calls.out.data(source, content)
-        counts = uleb(0) + uleb(0) + uleb(count) + uleb(0)
-        # each row has a byte for the method, one for its flags, and three for where the item is
-        end = len(content) + len(counts) + 5 * count
-        item = end + -end % 4
-        flags_and_item = bytes([STATIC, 0x80 | item & 0x7F, 0x80 | item >> 7 & 0x7F, item >> 14])
-        calls.case()
-        calls.words('lazy', 'a.dex', 'LT;', '99')
-        calls.file('a.dex', source)
-        calls.put(file.places['LT; def'] + 24, word(len(content)))
-        calls.put(len(content), counts + b'\0' + flags_and_item)
-        calls.out.row('fill', count - 1, (b'\1' + flags_and_item).hex())
-        calls.put(end, bytes(item - end) + half(1) + bytes(10) + word(units))
+        item = with_class_data(calls, source, count)
+        calls.put(item, half(1) + bytes(10) + word(units))
         calls.out.row('zeros', 2 * units)
         calls.put(item + 16 + 2 * (units - 1), half(RETURN_VOID))
-        for verb in ('length', 'sign', 'sum'):
-            calls.out.row(verb)
-        calls.run('%d methods that have one code item of %d units' % (count, units), NOT_BUILT)
+        answer = NO_MEMORY if brought(count, units, units, 0) > MOST_BYTES else NOT_BUILT
+        run_whole(calls, '%d methods that have one code item of %d units' % (count, units), answer)
+
+
+def full(calls):
+    """Files of the greatest length in which nothing is shared: they bring as much as any such file can, and are read."""
+    calls.out.note('files of 16 MiB in which nothing is shared')
+    item = with_class_data(calls, 'shared-one.dex', 1)
+    units = (MOST_BYTES - item - 16) // 2
+    assert brought(1, units, units, 0) <= MOST_BYTES
+    calls.put(item, half(1) + bytes(10) + word(units))
+    calls.out.row('zeros', 2 * units)
+    calls.put(item + 16 + 2 * (units - 1), half(RETURN_VOID))
+    run_whole(calls, 'one code item up to the end, of instructions of one unit', NOT_BUILT)
+
+    item = with_class_data(calls, 'shared-one.dex', 1)
+    # two instructions, then the head of the payload and so many bytes
+    front = [0x0026, 4, 0, RETURN_VOID, 0x0300, 1]
+    items = 2 * (units - 8)
+    assert brought(1, units, 2, units - 4) <= MOST_BYTES
+    calls.put(item, half(1) + bytes(10) + word(units) + b''.join(map(half, front)) + word(items))
+    calls.out.row('zeros', items)
+    run_whole(calls, 'one code item up to the end, of an array of bytes', NOT_BUILT)

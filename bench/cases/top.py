@@ -4,7 +4,7 @@ states the answers."""
 import hashlib
 import struct
 
-from cases import altered
+from cases import altered, shared
 from cases.calls import DONE, NOT_BUILT, USAGE, Calls, limited, rule
 from cases.five import five
 
@@ -219,3 +219,5 @@ def rows(out):
     contents(calls)
     first_file(out)
     altered.rows(calls)
+    shared.large(calls)
+    shared.full(calls)
