@@ -1,11 +1,9 @@
 -- Sums of what a file brings, one thing after another.
-use Rattle.std.proofs.Common.{◌≡◌, ℕ, zero, suc, ◌+◌, ◌-◌, ◌<◌, ◌≤◌, Bool, true, false, nat_lt, List, [], ◌∷◌, length, drop, get_or, map, Some, refl, sym, ap, ◌∙◌, arith}
-use Rattle.std.specs.Prelude.{◌==◌, cond, sum_by, slice_get}
+use Rattle.std.proofs.Common.{◌≡◌, ℕ, zero, suc, ◌+◌, ◌-◌, ◌<◌, ◌≤◌, Bool, true, false, nat_lt, nat_cmp, Less, Equal, Greater, List, [], ◌∷◌, length, drop, get_or, map, Some, refl, sym, ap, ◌∙◌, arith}
+use Rattle.std.specs.Prelude.{◌==◌, cond, sum_by, slice_get, Result, Ok, Err, IfOk}
 use Rattle.std.specs.List.{HoldsAt}
-use Rattle.std.specs.Ordering.{Less, Equal, Greater, nat_cmp}
 use Rattle.std.proofs.lemmas.Bool.Decides.{nat_tests}
 use Rattle.std.proofs.Math.ListN.{drop_of_length-le}
-use Rattle.std.proofs.lemmas.List.{drop_more}
 use Rattle.std.proofs.lemmas.List.Sums.{sum_by-drop_more, sum_by-cons}
 use Rattle.pi_format.specs.Rules.Lowest.{tabulation}
 
@@ -27,7 +25,9 @@ piece_goes f total [] i x e = cc
 piece_goes f total (y ∷ ys) zero x e =
     let is : y ≡ x = cc in
     omega (arith, sum_by-cons f y ys, ap f is)
-piece_goes f total (y ∷ ys) (suc i) x e = piece_goes f total ys i x e
+piece_goes f total (y ∷ ys) (suc i) x e =
+    let place : suc i + 1 ≡ suc (i + 1) = omega arith in
+    ap (λ j. (total + f x) + sum_by f (drop j (y ∷ ys))) place ∙ piece_goes f total ys i x e
 
 -- what is known of a code item that was searched for
 pub known_weight : (w : ℕ → ℕ) (codes weights : List ℕ) (k at : ℕ) → weights ≡ map w codes → k < length codes → HoldsAt (λ y. nat_cmp y at ≡ Equal) codes k
@@ -48,6 +48,11 @@ known_weight w codes weights k at are lt found =
     mapped [] j lt = absurd (omega arith)
     mapped (x ∷ xs) zero lt = refl
     mapped (x ∷ xs) (suc j) lt = mapped xs j (omega arith)
+
+-- a sum in other words
+pub sum_is : {E : Type 0} (r : Result ℕ E) (a b : ℕ) → a ≡ b → IfOk r (λ s. s ≡ a) → IfOk r (λ s. s ≡ b)
+sum_is (Ok s) a b e is = is ∙ e
+sum_is (Err e) a b same is = _
 
 -- one more number
 pub number_goes : (f : ℕ → ℕ) (total i n : ℕ) → i < n

@@ -1,5 +1,5 @@
 -- What a file brings to a program, counted so that one in which nothing is shared brings no more than it has bytes.
-use Rattle.std.specs.Prelude.{ℕ, zero, suc, ◌+◌, ◌*◌, ◌/◌, ◌==◌, List, [], ◌∷◌, length, find, sum_by, Option, Some, None, if◌then◌else◌}
+use Rattle.std.specs.Prelude.{ℕ, ◌+◌, ◌/◌, ◌==◌, List, length, find, sum_by, Option, Some, None, if◌then◌else◌}
 use Rattle.pi_insn.specs.declared.raw.RawBody.{RawBody}
 use Rattle.pi_insn.specs.declared.raw.RawBody.TheVariants.{FillArray, Switch, Invoke}
 use Rattle.pi_insn.specs.Payloads.{Data}

@@ -1,4 +1,4 @@
-use Rattle.std.proofs.Common.{rules, ◌≡◌, ◌+◌, List, ℕ, drop, sym, ap, ◌∙◌}
+use Rattle.std.proofs.Common.{rules, ◌≡◌, ◌+◌, drop, sym, ap, ◌∙◌}
 use Rattle.pi_dex.specs.declared.walk_rules.Faults.{Faults}
 use Rattle.pi_dex.specs.Judged.{walk_place, index_place, payload_place, both_faults}
 use Rattle.pi_dex.proofs.Codes.{codes_lie}
