@@ -130,10 +130,10 @@ code_by_parts law file codes lie are =
     ap (λ o. lower o (lowest_words file)) (in_codes (item_place file) file codes are)
     ∙ sym (from_both (λ k. lowest_of items (methods_in (rows_of file k))) (λ k. lowest_of (words_place file) (methods_in (rows_of file k))) 0 (count_at file class_defs))
     ∙ from_same (λ k. lower (lowest_of items (methods_in (rows_of file k))) (lowest_of (words_place file) (methods_in (rows_of file k))))
-      (λ k. lowest_of (code_place file) (methods_in (rows_of file k)))
-      (λ k. sym (of_both items (words_place file) (methods_in (rows_of file k)))
-      ∙ of_same (λ r. lower (items r) (words_place file r)) (code_place file) (λ r. sym (row_by_parts law file lie r)) (methods_in (rows_of file k)))
-      0 (count_at file class_defs)
+    (λ k. lowest_of (code_place file) (methods_in (rows_of file k)))
+    (λ k. sym (of_both items (words_place file) (methods_in (rows_of file k)))
+    ∙ of_same (λ r. lower (items r) (words_place file r)) (code_place file) (λ r. sym (row_by_parts law file lie r)) (methods_in (rows_of file k)))
+    0 (count_at file class_defs)
 
 pub items_lie : (file : List ℕ) (at : ℕ) → is_some (item_bytes file at) ≡ true → code_lies file at ≡ true
 unfolding item_bytes

@@ -12,7 +12,7 @@ pub sum_goes : {A : Type 0} (f : A → ℕ) (total : ℕ) (xs : List A) (i : ℕ
     → (total + f x) + sum_by f (drop (i + 1) xs) ≡ total + sum_by f (drop i xs)
 sum_goes f total xs i x lt is =
     let more : sum_by f (drop i xs) ≡ f x + sum_by f (drop (i + 1) xs) =
-        sum_by-drop_more f xs i x lt ∙ ap (λ y. f y + sum_by f (drop (i + 1) xs)) (sym is) in
+    sum_by-drop_more f xs i x lt ∙ ap (λ y. f y + sum_by f (drop (i + 1) xs)) (sym is) in
     omega (arith, more)
 
 pub sum_ends : {A : Type 0} (f : A → ℕ) (total : ℕ) (xs : List A) (i : ℕ) → length xs ≤ i → total + sum_by f (drop i xs) ≡ total
@@ -60,7 +60,7 @@ pub number_goes : (f : ℕ → ℕ) (total i n : ℕ) → i < n
 number_goes f total i n lt =
     let more : n - i ≡ suc (n - (i + 1)) = omega arith in
     let first : sum_by f (tabulation (λ k. k) i (n - i)) ≡ f i + sum_by f (tabulation (λ k. k) (i + 1) (n - (i + 1))) =
-        ap (λ m. sum_by f (tabulation (λ k. k) i m)) more ∙ sum_by-cons f i (tabulation (λ k. k) (i + 1) (n - (i + 1))) in
+    ap (λ m. sum_by f (tabulation (λ k. k) i m)) more ∙ sum_by-cons f i (tabulation (λ k. k) (i + 1) (n - (i + 1))) in
     omega (arith, first)
 
 pub numbers_end : (f : ℕ → ℕ) (total i n : ℕ) → n ≤ i → total + sum_by f (tabulation (λ k. k) i (n - i)) ≡ total

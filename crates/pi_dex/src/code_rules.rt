@@ -57,11 +57,7 @@ fn other_words(alloc: Global, raw: &Raw<'_>, row: &MemberRow) -> Result<Option<u
 
 /// The lowest of methods one after the other.
 #[tactic(auto, using(crate::proofs::Lowest::items_go, crate::proofs::Lowest::items_end))]
-fn lowest_words(
-    alloc: Global,
-    raw: &Raw<'_>,
-    rows: &[MemberRow],
-) -> Result<Option<u32>, AllocError>
+fn lowest_words(alloc: Global, raw: &Raw<'_>, rows: &[MemberRow]) -> Result<Option<u32>, AllocError>
     requires { All (IsMethod raw.now) rows.now }
     ensures { IfOk result (λ r. r ≡ lowest_of (words_place raw.now) rows.now) }
 {
@@ -89,11 +85,7 @@ fn lowest_in_class(
 
 /// The lowest code item of a method with other argument words.
 #[tactic(auto, using(pi_format::proofs::Loops::lowest_goes, pi_format::proofs::Loops::lowest_done))]
-fn broken_words(
-    alloc: Global,
-    raw: &Raw<'_>,
-    table: &RowTable,
-) -> Result<Option<u32>, AllocError>
+fn broken_words(alloc: Global, raw: &Raw<'_>, table: &RowTable) -> Result<Option<u32>, AllocError>
     requires { table.now ≡ tabulation (rows_of raw.now) 0 (count_at raw.now class_defs) }
     ensures { IfOk result (λ r. r ≡ lowest_words raw.now) }
 {

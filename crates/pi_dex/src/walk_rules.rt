@@ -63,11 +63,7 @@ fn code_faults(alloc: Global, raw: &Raw<'_>, at: u32) -> Result<Faults, AllocErr
 
 /// X21 to X23: from unit 0 on there are instructions and payloads, indices are in range, and payloads fit.
 #[tactic(auto, using(crate::proofs::Faults::faults_go, crate::proofs::Faults::faults_end))]
-pub(crate) fn walk_rules(
-    alloc: Global,
-    raw: &Raw<'_>,
-    codes: &[u32],
-) -> Result<Faults, AllocError>
+pub(crate) fn walk_rules(alloc: Global, raw: &Raw<'_>, codes: &[u32]) -> Result<Faults, AllocError>
     requires codes { AreCodes raw.now codes.now }
     requires code { broken_code raw.now ≡ None }
     ensures walk { IfOk result (λ f. f.walk ≡ broken_walk raw.now) }

@@ -108,12 +108,7 @@ fn with_piece(
 
 /// A total with what the pieces of a code bring.
 #[tactic(auto, using(crate::proofs::Weights::piece_goes, crate::proofs::Weights::sum_ends))]
-fn with_pieces(
-    alloc: Global,
-    raw: &Raw<'_>,
-    walk: &Walk<'_>,
-    total: u32,
-) -> Result<u32, AllocError>
+fn with_pieces(alloc: Global, raw: &Raw<'_>, walk: &Walk<'_>, total: u32) -> Result<u32, AllocError>
     requires total { total ≤ most_bytes }
     requires indices { All (NamesIndex raw.now) walk.now.pieces }
     ensures sum { IfOk result (λ sum. sum ≡ total + sum_by (piece_weight raw.now walk.now.pieces) walk.now.pieces) }

@@ -12,4 +12,4 @@ returns c =
     let virtuals : c.as_slice-2.result.now ≡ rows.virtuals = c.as_slice-2.ensures ∙ ap (λ (r : ClassRows). r.virtuals) c.rows.view_is in
     c.in_ok-add_offsets-2.ensures
     ∙ rw (c.in_ok-add_offsets.ensures, directs, virtuals)
-      (append_assoc old (offsets_in rows.directs) (offsets_in rows.virtuals) ∙ ap (λ xs. old ++ xs) (sym (offsets_join rows.directs rows.virtuals)))
+    (append_assoc old (offsets_in rows.directs) (offsets_in rows.virtuals) ∙ ap (λ xs. old ++ xs) (sym (offsets_join rows.directs rows.virtuals)))

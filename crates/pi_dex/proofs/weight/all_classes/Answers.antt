@@ -10,7 +10,9 @@ pub loop-i-preserved : goal.loop-i-preserved
 loop-i-preserved c =
     let file = c.args.raw.now in
     let f = class_weight file in
-    let n : ℕ = count_at file class_defs in
-    (ap (λ (s : ℕ). s + sum_by f (tabulation (λ k. k) (c.loop-i.i + 1) (n - (c.loop-i.i + 1)))) c.in_ok-sum.ensures.sum
-    ∙ number_goes f c.loop-i.sum c.loop-i.i n (omega (arith, c.class_defs-i-end.ensures))
-    ∙ c.loop-i.invariant.0, c.in_ok-sum.ensures.most)
+    let n : ℕ = count_at file class_defs in (
+      ap (λ (s : ℕ). s + sum_by f (tabulation (λ k. k) (c.loop-i.i + 1) (n - (c.loop-i.i + 1)))) c.in_ok-sum.ensures.sum
+          ∙ number_goes f c.loop-i.sum c.loop-i.i n (omega (arith, c.class_defs-i-end.ensures))
+          ∙ c.loop-i.invariant.0,
+      c.in_ok-sum.ensures.most,
+    )

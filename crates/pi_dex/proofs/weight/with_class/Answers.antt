@@ -39,7 +39,7 @@ returns-clause-sum c =
     let items : c.len.result ≡ length c.in_ok-faces.field-0.items = search rules in
     let faces : c.len.result ≡ length (list_at file (class_entry file i).faces) = items ∙ ap length c.in_ok-faces.ensures.value in
     let both : sum_by f (methods_in (rows_of file i)) ≡ sum_by f rows.directs + sum_by f rows.virtuals =
-        ap (λ (r : ClassRows). sum_by f (methods_in r)) (sym c.members-rows.ensures.rows) ∙ sum_by-append f rows.directs rows.virtuals in
+    ap (λ (r : ClassRows). sum_by f (methods_in r)) (sym c.members-rows.ensures.rows) ∙ sum_by-append f rows.directs rows.virtuals in
     sum_is c.with_methods-2.result _ _
     (omega (arith, c.in_ok-total.ensures.sum, c.in_ok-total-2.ensures.sum, ap (λ (rs : List MemberRow). sum_by f rs) directs, ap (λ (rs : List MemberRow). sum_by f rs) virtuals, faces, both))
     c.with_methods-2.ensures.sum

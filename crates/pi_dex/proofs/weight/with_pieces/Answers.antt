@@ -7,7 +7,9 @@ use Rattle.pi_dex.proofs.weight.with_pieces.Goals as goal
 pub loop-k-preserved : goal.loop-k-preserved
 loop-k-preserved c =
     let pieces = c.args.walk.now.pieces in
-    let f = piece_weight c.args.raw.now pieces in
-    (ap (λ (s : ℕ). s + sum_by f (drop (c.loop-k.k + 1) pieces)) c.in_ok-sum.ensures.sum
-    ∙ piece_goes f c.loop-k.sum pieces c.loop-k.k c.piece.result c.piece.ensures
-    ∙ c.loop-k.invariant.0, c.in_ok-sum.ensures.most)
+    let f = piece_weight c.args.raw.now pieces in (
+      ap (λ (s : ℕ). s + sum_by f (drop (c.loop-k.k + 1) pieces)) c.in_ok-sum.ensures.sum
+          ∙ piece_goes f c.loop-k.sum pieces c.loop-k.k c.piece.result c.piece.ensures
+          ∙ c.loop-k.invariant.0,
+      c.in_ok-sum.ensures.most,
+    )

@@ -9,7 +9,9 @@ use Rattle.pi_dex.proofs.weight.with_ranges.Goals as goal
 pub loop-k-preserved : goal.loop-k-preserved
 loop-k-preserved c =
     let f = range_handlers c.args.file.now c.args.at c.args.head.now c.args.lists.now in
-    let n : c.head.inside.tries ≡ c.args.head.now.tries = ap (λ (h : CodeHead). h.tries) c.head.view_is in
-    (ap (λ (s : ℕ). s + sum_by f (tabulation (λ i. i) (c.loop-k.k + 1) (c.args.head.now.tries - (c.loop-k.k + 1)))) c.in_ok-sum.ensures.sum
-    ∙ number_goes f c.loop-k.sum c.loop-k.k c.args.head.now.tries (omega (arith, n))
-    ∙ c.loop-k.invariant.0, c.in_ok-sum.ensures.most)
+    let n : c.head.inside.tries ≡ c.args.head.now.tries = ap (λ (h : CodeHead). h.tries) c.head.view_is in (
+      ap (λ (s : ℕ). s + sum_by f (tabulation (λ i. i) (c.loop-k.k + 1) (c.args.head.now.tries - (c.loop-k.k + 1)))) c.in_ok-sum.ensures.sum
+          ∙ number_goes f c.loop-k.sum c.loop-k.k c.args.head.now.tries (omega (arith, n))
+          ∙ c.loop-k.invariant.0,
+      c.in_ok-sum.ensures.most,
+    )
