@@ -1,10 +1,9 @@
 -- What the format gives of each class that a file says, where the file is a list of bytes.
-use Rattle.std.proofs.Common.{◌≡◌, ℕ, zero, suc, ◌+◌, ◌<◌, ◌==◌, List, [], ◌∷◌, map, Option, Some, None, Bool, true, false, if◌then◌else◌, refl, arith}
+use Rattle.std.proofs.Common.{◌≡◌, ℕ, zero, suc, ◌+◌, ◌<◌, ◌==◌, List, [], ◌∷◌, map, Some, None, Bool, true, false, if◌then◌else◌, refl, arith}
 use Rattle.std.specs.Prelude.{nat_lt, slice_index}
 use Rattle.std.specs.List.{list_all, All}
 use Rattle.std.proofs.lemmas.Bool.Decides.{nat_tests}
 use Rattle.std.proofs.lemmas.List.{get_or-drop}
-use Rattle.pi_model.specs.declared.describe.ClassDesc.{ClassDesc}
 use Rattle.pi_model.specs.declared.describe.MethodDesc.{MethodDesc}
 use Rattle.pi_model.specs.Program.{Program}
 use Rattle.pi_bytes.specs.Numbers.{half_at}

@@ -5,13 +5,11 @@ use Rattle.std.specs.List.{list_all, list_any}
 use Rattle.std.proofs.lemmas.Bool.{and_parts, and_from, or_from, or_parts}
 use Rattle.std.proofs.lemmas.Bool.Decides.{nat_tests}
 use Rattle.std.proofs.lemmas.List.{length-map}
-use Rattle.std.proofs.lemmas.Option.{none-some}
 use Rattle.pi_bytes.specs.Place.{Place}
 use Rattle.pi_model.specs.declared.describe.Init.TheVariants.{Zero}
 use Rattle.pi_model.specs.Distinct.{all_distinct}
 use Rattle.pi_model.specs.Program.{field_count, method_count}
 use Rattle.pi_model.proofs.Kept.{all_more}
-use Rattle.pi_insn.specs.Chain.{◌>>=◌}
 use Rattle.pi_insn.proofs.Steps.{bind_some}
 use Rattle.pi_format.specs.Tables.{count_at, field_ids, method_ids, class_defs}
 use Rattle.pi_format.specs.declared.lists.MemberList.{MemberList}
