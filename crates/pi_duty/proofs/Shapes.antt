@@ -206,12 +206,7 @@ module _ (fits : FitsBehind no_files core_names core_types core_classes) (keeps 
       let laid : list_all method_laid d.methods ≡ true = methods_laid d d.methods is.methods in
       let facts : IsOfFile 1 d = all_first (IsOfFile 1) d [] (subst (All (IsOfFile 1)) one.only (has_facts core_program file 1 below)) in
       record {
-        new = brought file;
-        class = d;
-        chain = chain_is one;
-        distinct = said_distinct kept;
-        fits = one.fits;
-        named = one.called;
+        one = class_of_one kept one;
         laid = laid;
         narrow = each_small d.methods laid facts.registers;
         zero_values = fields_zero d.fields is.fields;

@@ -33,19 +33,14 @@ pub record HasSmallClass (main : List ℕ) (p : Program) : Type 0 where
   pub fits : class_fits class ≡ true
   pub named : has_text (core_names ++ new.names) class.name main ≡ true
 
--- the same, with what the bytes of a file add to it
+-- and the class is as the bytes of a file make it
 pub record IsSmall (main : List ℕ) (p : Program) : Type 0 where
-  pub new : Brought
-  pub class : ClassDesc
-  pub chain : p ≡ small_chain new class
-  pub distinct : all_distinct same_text (core_names ++ new.names) ≡ true
-  pub fits : class_fits class ≡ true
-  pub named : has_text (core_names ++ new.names) class.name main ≡ true
-  pub laid : list_all method_laid class.methods ≡ true
-  pub narrow : list_all method_small class.methods ≡ true
-  pub zero_values : list_all has_no_value class.fields ≡ true
-  pub second : class.file.0 ≡ 1
-  pub no_faces : class.faces ≡ []
+  pub one : HasSmallClass main p
+  pub laid : list_all method_laid one.class.methods ≡ true
+  pub narrow : list_all method_small one.class.methods ≡ true
+  pub zero_values : list_all has_no_value one.class.fields ≡ true
+  pub second : one.class.file.0 ≡ 1
+  pub no_faces : one.class.faces ≡ []
 
 -- a file that breaks no rule and says a small program behind the first file says one such class
 abbrev pub SmallHasClass : Type 0

@@ -43,11 +43,11 @@ pub record ClassFacts (text : List ℕ) (new : Brought) (d : ClassDesc) : Type 0
   pub no_values : list_all has_no_value d.fields ≡ true
   pub second : d.file.0 ≡ 1
 
-facts_of : (text : List ℕ) (p : Program) (s : IsSmall text p) → ClassFacts text s.new s.class
+facts_of : (text : List ℕ) (p : Program) (s : IsSmall text p) → ClassFacts text s.one.new s.one.class
 facts_of text p s = record {
-  fits = s.fits;
-  distinct = s.distinct;
-  named = s.named;
+  fits = s.one.fits;
+  distinct = s.one.distinct;
+  named = s.one.named;
   laid = s.laid;
   narrow = s.narrow;
   no_values = s.zero_values;
@@ -184,20 +184,20 @@ module _ (text : List ℕ) (new : Brought) (v : View) (facts : ClassFacts text n
       }
 
 -- the class that the view sees is the small file's
-same_class : (text : List ℕ) (p : Program) (s : IsSmall text p) (v : View) → SeesClass p v → s.class ≡ v.class
-same_class text p s v sees = some_same s.class v.class (sym (ap (λ (q : Program). class_at q 2) s.chain) ∙ sees.class)
+same_class : (text : List ℕ) (p : Program) (s : IsSmall text p) (v : View) → SeesClass p v → s.one.class ≡ v.class
+same_class text p s v sees = some_same s.one.class v.class (sym (ap (λ (q : Program). class_at q 2) s.one.chain) ∙ sees.class)
 
-facts_seen : (text : List ℕ) (p : Program) (s : IsSmall text p) (v : View) → SeesClass p v → ClassFacts text s.new v.class
-facts_seen text p s v sees = subst (ClassFacts text s.new) (same_class text p s v sees) (facts_of text p s)
+facts_seen : (text : List ℕ) (p : Program) (s : IsSmall text p) (v : View) → SeesClass p v → ClassFacts text s.one.new v.class
+facts_seen text p s v sees = subst (ClassFacts text s.one.new) (same_class text p s v sees) (facts_of text p s)
 
 pub small_fits : (text : List ℕ) (p : Program) (v : View) → IsSmall text p → SeesClass p v → Fits v (plain_start v)
-small_fits text p v s sees = start_fits text s.new v (facts_seen text p s v sees) sees.main sees.clinit
+small_fits text p v s sees = start_fits text s.one.new v (facts_seen text p s v sees) sees.main sees.clinit
 
 pub small_run : (text : List ℕ) (p : Program) (v : View) (limit : ℕ) (f : Finish) → IsSmall text p → SeesClass p v → PlainEnds v limit (plain_start v) 0 [] f
     → RunEnds p text limit f
 small_run text p v limit f s sees e =
-    let r : RunEnds (small_chain s.new v.class) text limit f = run_ends text s.new v (facts_seen text p s v sees) sees.main sees.clinit limit f e in
-    let same : small_chain s.new v.class ≡ p = ap (small_chain s.new) (sym (same_class text p s v sees)) ∙ sym s.chain in
+    let r : RunEnds (small_chain s.one.new v.class) text limit f = run_ends text s.one.new v (facts_seen text p s v sees) sees.main sees.clinit limit f e in
+    let same : small_chain s.one.new v.class ≡ p = ap (small_chain s.one.new) (sym (same_class text p s v sees)) ∙ sym s.one.chain in
     subst (λ (q : Program). RunEnds q text limit f) same r
 
 -- the class of a small file has a main with code, which has a register for its argument
@@ -208,10 +208,10 @@ has_main new d r =
 
 pub small_has_main : (text : List ℕ) (p : Program) → IsSmall text p → HasMain p
 small_has_main text p s =
-    subst HasMain (sym s.chain) (has_main s.new s.class (roles_of s.new s.class s.class.methods (class_is s.class s.fits).methods))
+    subst HasMain (sym s.one.chain) (has_main s.one.new s.one.class (roles_of s.one.new s.one.class s.one.class.methods (class_is s.one.class s.one.fits).methods))
 
 small_classes : (text : List ℕ) (p : Program) → IsSmall text p → 2 < length p.classes
-small_classes text p s = subst (λ (q : Program). 2 < length q.classes) (sym s.chain) (lit< tt)
+small_classes text p s = subst (λ (q : Program). 2 < length q.classes) (sym s.one.chain) (lit< tt)
 
 room_at : (text : List ℕ) (new : Brought) (v : View) → ClassFacts text new v.class → code_in (method_named main_name v.class.methods) ≡ Some v.main → 1 ≤ v.main.regs
 room_at text new v facts sees =
@@ -220,4 +220,4 @@ room_at text new v facts sees =
     subst (λ (c : Code). 1 ≤ c.regs) e r.is.room
 
 pub small_room : (text : List ℕ) (p : Program) (v : View) → IsSmall text p → SeesClass p v → 1 ≤ v.main.regs
-small_room text p v s sees = room_at text s.new v (facts_seen text p s v sees) sees.main
+small_room text p v s sees = room_at text s.one.new v (facts_seen text p s v sees) sees.main
