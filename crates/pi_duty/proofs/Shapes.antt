@@ -199,7 +199,7 @@ module _ (fits : FitsBehind no_files core_names core_types core_classes) (keeps 
   shape_of : HasFacts → broken_rule file ≡ None → ((k : ℕ) → slice_index file k < 256)
       → OneClass (core_names ++ new_names core_names (texts_of file)) main (classes_said (named_file core_program file) 1)
       → IsSmall main (with_said core_program file)
-  unfolding brought
+  unfolding brought class_of_one
   shape_of has_facts kept below one =
       let d : ClassDesc = one.class in
       let is : Parts d = parts d one.fits in
