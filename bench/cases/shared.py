@@ -170,6 +170,14 @@ def large(calls):
         run_whole(calls, '%d methods that have one code item of %d units' % (count, units), answer)
 
 
+def filled(calls, item, units, again, count):
+    """An item of so many units: some of them again and again, then nops and a return."""
+    calls.put(item, half(255) + bytes(10) + word(units))
+    calls.out.row('fill', count, b''.join(map(half, again)).hex())
+    calls.out.row('zeros', 2 * (units - count * len(again)))
+    calls.put(item + 16 + 2 * (units - 1), half(RETURN_VOID))
+
+
 def full(calls):
     """Files of the greatest length in which nothing is shared: they bring as much as any such file can, and are read."""
     calls.out.note('files of 16 MiB in which nothing is shared')
@@ -180,6 +188,22 @@ def full(calls):
     calls.out.row('zeros', 2 * units)
     calls.put(item + 16 + 2 * (units - 1), half(RETURN_VOID))
     run_whole(calls, 'one code item up to the end, of instructions of one unit', NOT_BUILT)
+
+    item = with_class_data(calls, 'shared-one.dex', 1)
+    # a call of the method itself, by its number, with 255 registers in a row from 0 on
+    call = [0xFF77, 0, 0]
+    count = (units - 1) // len(call)
+    assert brought(1, units, count + 3, 0) <= MOST_BYTES
+    filled(calls, item, units, call, count)
+    run_whole(calls, 'one code item up to the end, of calls that name 255 registers', NOT_BUILT)
+
+    item = with_class_data(calls, 'shared-one.dex', 1)
+    # a switch, a nop, and the payload of the switch, of ten cases that lead to the nop
+    switch = [0x002B, 4, 0, 0, 0x0100, 10, 0, 0] + [3, 0] * 10
+    count = (units - 1) // len(switch)
+    assert brought(1, units, 2 * count + len(switch), 24 * count) <= MOST_BYTES
+    filled(calls, item, units, switch, count)
+    run_whole(calls, 'one code item up to the end, of switches', NOT_BUILT)
 
     item = with_class_data(calls, 'shared-one.dex', 1)
     # two instructions, then the head of the payload and so many bytes
