@@ -1,0 +1,4 @@
+pub mod Examples
+pub mod Puts
+pub mod Stands
+pub mod ReadBack
