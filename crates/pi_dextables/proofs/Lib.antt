@@ -1,0 +1,24 @@
+-- Lemmas on the bytes of tables, and on what they say.
+pub mod Each
+pub mod Rising
+pub mod Readers
+pub mod Steps
+pub mod Laid
+pub mod Whole
+pub mod Head
+pub mod HeadKept
+pub mod ClassData
+pub mod Counts
+pub mod MapItems
+pub mod Map
+pub mod MapKept
+pub mod Strings
+pub mod Values
+pub mod HandlerLists
+pub mod CodeItems
+pub mod Methods
+pub mod Pools
+pub mod ClassLines
+pub mod Entries
+pub mod Told
+pub mod Examples
