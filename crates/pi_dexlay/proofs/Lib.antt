@@ -1,0 +1,9 @@
+mod Bytes
+mod Steps
+mod RowSteps
+mod Ends
+mod MadeSteps
+mod TableSteps
+mod LayoutSteps
+mod SectionSteps
+mod WholeSteps
