@@ -11,6 +11,7 @@ mod stores;
 mod top;
 
 use outside::Outside;
+use pi_layrows::layouts::Layouts;
 use pi_partrows::acts::Acts;
 use pi_partrows::arith::Arithmetic;
 use pi_partrows::frames::Counted;
@@ -36,6 +37,7 @@ fn main(rt: HostRuntime) -> io::Result<()> {
     for file in ["raw", "members", "code", "reader"].iter() {
         follow_rows(&rt, file, Reader::new(alloc))?;
     }
+    follow_rows(&rt, "layouts", Layouts::new(alloc))?;
     follow_rows(&rt, "jobs", Jobs::new(alloc))?;
     follow_rows(&rt, "asmtext", AsmText::new(alloc))?;
     follow_parts(&rt, alloc)?;
