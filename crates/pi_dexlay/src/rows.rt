@@ -65,12 +65,16 @@ fn put_offset(out: &mut Vec<u8>, list: MemberList, code: usize) -> Result<(), Al
     Ok(())
 }
 
-/// The rows of fields.
+/// The rows of fields, of which the first has its id counted from that one, if any.
 #[tactic(auto, using(crate::proofs::RowSteps::field_step))]
-fn put_fields(out: &mut Vec<u8>, list: MemberList, fields: &[FieldRow]) -> Result<(), AllocError>
-    ensures { OnOk result (out.new.items ≡ out.old.items ++ rows_bytes list None (map field_row fields.now)) }
+fn put_fields(
+    out: &mut Vec<u8>,
+    list: MemberList,
+    mut before: Option<u32>,
+    fields: &[FieldRow],
+) -> Result<(), AllocError>
+    ensures { OnOk result (out.new.items ≡ out.old.items ++ rows_bytes list before (map field_row fields.now)) }
 {
-    let mut before = None;
     for field in fields {
         let row = Row {
             id: field.id,
@@ -175,8 +179,10 @@ pub(crate) fn put_class_data<'a>(
         return Ok(offsets);
     }
     put_counts(out, class)?;
-    put_fields(out, MemberList::StaticFields, class.statics.as_slice())?;
-    put_fields(out, MemberList::InstanceFields, class.instances.as_slice())?;
+    let statics = class.statics.as_slice();
+    let instances = class.instances.as_slice();
+    put_fields(out, MemberList::StaticFields, None, statics)?;
+    put_fields(out, MemberList::InstanceFields, None, instances)?;
     let left = put_methods(
         out,
         MemberList::DirectMethods,

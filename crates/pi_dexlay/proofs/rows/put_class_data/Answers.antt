@@ -25,8 +25,8 @@ returns-clause-bytes c =
     data_put c.args.class.now offsets left c.args.out.now.items o1 o2 o3 o4 c.put_methods-2.new.out.items c.has_no_members.result
     c.if-has_no_members.false (c.has_no_members.ensures offsets)
     (c.in_ok-put_counts.ensures ∙ ap (λ z. c.args.out.now.items ++ z) (sym (counts_of c.args.class.now offsets)))
-    (c.in_ok-put_fields.ensures ∙ ap (λ z. o1 ++ rows_bytes StaticFields None (map field_row z)) c.as_slice.ensures)
-    (c.in_ok-put_fields-2.ensures ∙ ap (λ z. o2 ++ rows_bytes InstanceFields None (map field_row z)) c.as_slice-2.ensures)
-    (c.in_ok-left.ensures.bytes ∙ ap (λ z. o3 ++ rows_bytes DirectMethods None (method_rows offsets z)) c.as_slice-3.ensures)
-    (c.in_ok-left.ensures.left ∙ ap (λ z. drop (length (bodies_in z)) offsets) c.as_slice-3.ensures)
-    (c.in_ok-left-2.ensures.bytes ∙ ap (λ z. o4 ++ rows_bytes VirtualMethods None (method_rows left z)) c.as_slice-4.ensures)
+    (c.in_ok-put_fields.ensures ∙ ap (λ z. o1 ++ rows_bytes StaticFields None (map field_row z)) c.as_slice-statics.ensures)
+    (c.in_ok-put_fields-2.ensures ∙ ap (λ z. o2 ++ rows_bytes InstanceFields None (map field_row z)) c.as_slice-instances.ensures)
+    (c.in_ok-left.ensures.bytes ∙ ap (λ z. o3 ++ rows_bytes DirectMethods None (method_rows offsets z)) c.as_slice.ensures)
+    (c.in_ok-left.ensures.left ∙ ap (λ z. drop (length (bodies_in z)) offsets) c.as_slice.ensures)
+    (c.in_ok-left-2.ensures.bytes ∙ ap (λ z. o4 ++ rows_bytes VirtualMethods None (method_rows left z)) c.as_slice-2.ensures)
