@@ -28,7 +28,8 @@ use Rattle.pi_dextables.proofs.Laid.{Laid, Headed, table_there}
 use Rattle.pi_dextables.proofs.Each.{all_got}
 use Rattle.pi_dextables.proofs.Pools.{kept_low, faces_kept, array_place, array_found}
 use Rattle.pi_dextables.proofs.Methods.{RowsListed, rows_listed, rows_behind}
-use Rattle.pi_dextables.proofs.ClassData.{RowFits, RowsFit, AllFit, AllFew, few_in_data, class_data_read, class_data_long, no_rows_read, no_class_data, some_class_data}
+use Rattle.pi_dextables.proofs.MemberRows.{RowFits, RowsFit}
+use Rattle.pi_dextables.proofs.ClassData.{AllFit, AllFew, few_in_data, class_data_read, class_data_long, no_rows_read, no_class_data, some_class_data}
 
 -- the words of a definition stand at its entry
 line_stands : (file : List ℕ) (t : Tables) (classes : List Class) (offs : List ℕ) (at i o : ℕ) (c : Class) → Stands file at (flat_map words (definitions t classes offs))

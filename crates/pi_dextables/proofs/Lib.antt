@@ -7,6 +7,7 @@ pub mod Laid
 pub mod Whole
 pub mod Head
 pub mod HeadKept
+pub mod MemberRows
 pub mod ClassData
 pub mod Counts
 pub mod MapItems

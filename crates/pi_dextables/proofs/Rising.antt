@@ -1,12 +1,13 @@
--- That a test of neighbours tells whether a list rises.
-use Rattle.std.proofs.Common.{◌≡◌, ℕ, ◌+◌, ◌<◌, Bool, true, false, List, [], ◌∷◌, map, get_or, nat_lt, nat_cmp, Ordering, Less, Equal, Greater, refl, sym, ◌∙◌, arith}
+-- That a test of neighbours tells whether a list rises, and whether numbers of its elements do not fall.
+use Rattle.std.proofs.Common.{◌≡◌, ℕ, ◌+◌, ◌<◌, ◌≤◌, Bool, true, false, List, [], ◌∷◌, length, map, get_or, nat_le, Ordering, Less, Equal, Greater, refl, sym, ◌∙◌, arith}
 use Rattle.std.specs.Bool.{Decides}
 use Rattle.std.specs.Cmp.{IsTotalOrder}
 use Rattle.std.specs.List.{IsAllAdjacentAnswer}
-use Rattle.std.specs.List.Sorted.{IsStrictlySortedBy}
-use Rattle.std.proofs.lemmas.List.{length-map}
+use Rattle.std.specs.List.Sorted.{IsNonDecreasing, IsStrictlySortedBy}
+use Rattle.std.proofs.lemmas.List.{length-map, get_or-map as number_at}
+use Rattle.std.proofs.lemmas.List.Sorted.{IsNonDecreasingBy-from_all_adjacent}
 use Rattle.std.specs.Ordering.{is_lt}
-use Rattle.std.proofs.lemmas.Bool.Decides.{nat_tests}
+use Rattle.std.proofs.lemmas.Bool.{le-leb, leb-true}
 use Rattle.std.proofs.Math.ListN.{get_or-map}
 use Rattle.std.proofs.lemmas.Map.Keys.{Less-from_sorted, sorted_from_all_adjacent}
 
@@ -33,10 +34,31 @@ module _ {X K : Type 0} {R : K → K → Ordering} (o : IsTotalOrder R) (key : X
         a.2 x ∙ is,
   )
 
-pub ids_tell : (m n : ℕ) → Decides (nat_lt m n) (nat_cmp m n ≡ Less)
-ids_tell m n = (λ h. grind (arith, nat_tests), λ h. grind (arith, nat_tests))
-
 pub order_tells : (o : Ordering) → Decides (is_lt o) (o ≡ Less)
 order_tells Less = (λ _. refl, λ _. refl)
 order_tells Equal = (λ no. cc, λ no. cc)
 order_tells Greater = (λ no. cc, λ no. cc)
+
+module _ {X : Type 0} (key : X → ℕ) where
+  -- two neighbours, among the elements and among their numbers
+  in_order : (xs : List X) (k : ℕ) (x : X) (d : ℕ) → k + 1 < length xs → true ≡ nat_le (key (get_or xs k x)) (key (get_or xs (k + 1) x))
+      → get_or (map key xs) k d ≤ get_or (map key xs) (k + 1) d
+  in_order xs k x d lt is =
+      let le = leb-true (key (get_or xs k x)) (key (get_or xs (k + 1) x)) (sym is) in
+      omega (arith, le, number_at key xs k x d (omega arith), number_at key xs (k + 1) x d lt)
+
+  pub order_decided : (xs : List X) (r : Bool) → IsAllAdjacentAnswer (λ x y b. b ≡ nat_le (key x) (key y)) xs r → Decides r (IsNonDecreasing (map key xs))
+  order_decided [] true a = (λ _. λ i j d le lt. absurd (omega arith), λ _. refl)
+  order_decided [] false a = let within : a.0 + 1 < 0 = a.1 in absurd (omega arith)
+  order_decided (x ∷ xs) true a =
+      (λ _. IsNonDecreasingBy-from_all_adjacent (λ n. n) (map key (x ∷ xs)) (λ k d lt. (let lt' : k + 1 < length (x ∷ xs) = omega (arith, lt, length-map (x ∷ xs) key) in in_order (x ∷ xs) k x d lt' (a k x lt'))), λ _. refl)
+  order_decided (x ∷ xs) false a = (
+    λ no. absurd (cc no),
+    λ up.
+        let k : ℕ = a.0 in
+        let lt : k + 1 < length (x ∷ xs) = a.1 in
+        let le = up k (k + 1) (key x) (omega arith) (omega (arith, lt, length-map (x ∷ xs) key)) in
+        let here = number_at key (x ∷ xs) k x (key x) (omega (arith, lt)) in
+        let next = number_at key (x ∷ xs) (k + 1) x (key x) lt in
+        a.2 x ∙ le-leb (key (get_or (x ∷ xs) k x)) (key (get_or (x ∷ xs) (k + 1) x)) (omega (arith, le, here, next)),
+  )

@@ -10,7 +10,7 @@ use Rattle.pi_format.specs.Rules.Entries.{list_fits, list_at}
 use Rattle.pi_format.specs.Rules.Strings.{string_text, string_units, type_string, broken_strings, broken_string_order}
 use Rattle.pi_format.specs.Rules.Members.{proto_entry, member_entry}
 use Rattle.pi_format.specs.Rules.Classes.{class_entry}
-use Rattle.pi_format.specs.Rules.Rows.{MemberRow}
+use Rattle.pi_format.specs.Rules.Rows.{MemberRow, is_behind}
 use Rattle.pi_format.specs.Rules.ClassData.{ClassRows, Owner, owner, class_flags, class_rows, rows_of, row_holds, are_apart}
 use Rattle.pi_format.specs.Rules.Values.{EncodedValue, class_values, value_fits, field_type}
 use Rattle.pi_format.specs.Rules.CodeItems.{CodeHead, HandlerList, code_lies, code_head, tries_at, lists_at, try_range, handler_lists, handler_holds}
@@ -67,12 +67,23 @@ pub record ProtoSaid (file : List ℕ) (i : ℕ) (p : Proto) : Type 0 where
 abbrev pub MemberSaid : List ℕ → ℕ → ℕ → Member → Type 0
 MemberSaid file table i m = member_entry file table i ≡ record { class = m.class; kind = m.kind; name = m.name }
 
--- the tests on rows: each is of the kind that its list has, and no member stands in two lists
+-- the ids of rows rise, from one row to the next
+abbrev pub ids_rise : Option ℕ → List MemberRow → Bool
+ids_rise before [] = true
+ids_rise before (row ∷ rows) = is_behind before row.id && ids_rise (Some row.id) rows
+
+-- the ids rise in each list of a class
+abbrev pub lists_rise : ClassRows → Bool
+lists_rise rows =
+    ids_rise None rows.statics && (ids_rise None rows.instances && (ids_rise None rows.directs && ids_rise None rows.virtuals))
+
+-- the tests on rows: the ids rise in each list, each row is of the kind that its list has, and no member stands in two lists
 unfoldable pub rows_hold : List ℕ → Owner → ClassRows → Bool
 rows_hold file o rows =
-    list_all (row_holds file o StaticFields) rows.statics && (list_all (row_holds file o InstanceFields) rows.instances
+    lists_rise rows
+    && (list_all (row_holds file o StaticFields) rows.statics && (list_all (row_holds file o InstanceFields) rows.instances
     && (list_all (row_holds file o DirectMethods) rows.directs && (list_all (row_holds file o VirtualMethods) rows.virtuals
-    && (are_apart rows.statics rows.instances && are_apart rows.directs rows.virtuals))))
+    && (are_apart rows.statics rows.instances && are_apart rows.directs rows.virtuals)))))
 
 -- values fit the first of the fields, one each
 abbrev pub values_fit : List ℕ → List MemberRow → List EncodedValue → Bool

@@ -1,7 +1,7 @@
 -- What must hold of tables so that bytes can spell them: strings rise, and numbers fit the places that they have.
 use Rattle.std.specs.Prelude.{◌≡◌, ◌⊎◌, ℕ, ◌<◌, ◌≤◌, ◌^◌, List, length, map, All, IfSome, is_some, true}
 use Rattle.std.specs.Cmp.Lexicographic.{slice_cmp}
-use Rattle.std.specs.List.Sorted.{IsStrictlySortedBy}
+use Rattle.std.specs.List.Sorted.{IsNonDecreasing, IsStrictlySortedBy}
 use Rattle.std.specs.Ordering.{nat_cmp}
 use Rattle.pi_bytes.specs.Numbers.{most_bytes}
 use Rattle.pi_format.specs.Rules.Values.{value_bytes}
@@ -69,9 +69,9 @@ pub record BodyFits (b : Body) : Type 0 where
   pub lists : All CatchesFit b.lists
   pub none : length b.ranges ≡ 0 → length b.lists ≡ 0
 
--- the ids of members rise
+-- the ids of members do not fall
 abbrev pub Rise : List ℕ → Type 0
-Rise ids = IsStrictlySortedBy nat_cmp ids
+Rise ids = IsNonDecreasing ids
 
 pub record FieldFits (f : FieldRow) : Type 0 where
   pub id : IsWord f.id

@@ -216,13 +216,13 @@ impl Fit for Class {
 fn fields_rise(rows: &[FieldRow]) -> bool
     ensures { IsTrue result ↔ Rise (map (λ f. f.id) rows.now) }
 {
-    rows.is_sorted_by(|a, b| a.id < b.id)
+    rows.is_sorted_by(|a, b| a.id <= b.id)
 }
 
 fn methods_rise(rows: &[MethodRow]) -> bool
     ensures { IsTrue result ↔ Rise (map (λ m. m.id) rows.now) }
 {
-    rows.is_sorted_by(|a, b| a.id < b.id)
+    rows.is_sorted_by(|a, b| a.id <= b.id)
 }
 
 fn strings_rise(strings: &[Units]) -> bool
