@@ -19,7 +19,7 @@ use Rattle.pi_format.specs.Says.Facts.{few_registers, IsOfFile}
 use Rattle.pi_format.proofs.Every.{all_nothing, all_more}
 
 -- a number of 16 bits
-half_small : (file : List ℕ) (at : ℕ) → ((k : ℕ) → slice_index file k < 256) → half_at file at < 65536
+pub half_small : (file : List ℕ) (at : ℕ) → ((k : ℕ) → slice_index file k < 256) → half_at file at < 65536
 half_small file at below =
     rw (get_or-drop at file 0 0, get_or-drop at file 1 0) (omega (arith, below (at + 0), below (at + 1)))
 

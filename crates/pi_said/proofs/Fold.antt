@@ -87,7 +87,7 @@ unfolding with_said
 said_keeps p file keeps room few short kept =
     kept_behind p (new_names p.names (texts_of file)) (types_said (named_file p file)) (classes_said (named_file p file) (length p.files)) keeps (said_fits p file keeps room few short kept)
 
-one_file_more : (p : Program) (file : List ℕ) → length (with_said p file).files ≡ length p.files + 1
+pub one_file_more : (p : Program) (file : List ℕ) → length (with_said p file).files ≡ length p.files + 1
 unfolding with_said
 one_file_more p file = length_push p.files _
 
@@ -120,7 +120,7 @@ room_behind before (file ∷ files) after keeps room few short says =
     (λ k d lt. short (suc k) d (omega arith)) says.1 in
     (rest.0, rest.1, omega (arith, rest.2))
 
-no_files_room : HasRoom no_files
+pub no_files_room : HasRoom no_files
 no_files_room = record { names = omega arith; types = omega arith; classes = omega arith; fields = omega arith; methods = omega arith }
 
 pub said_program : (files : List (List ℕ)) (p : Program) → Says files p → length files ≤ 8 → All (λ file. length file ≤ most_bytes) files

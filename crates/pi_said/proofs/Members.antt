@@ -31,10 +31,10 @@ use Rattle.pi_said.proofs.Counts.{few_distinct, owned, few_owned, sum-listed_le}
 abbrev pub same_id : MemberRow → MemberRow → Bool
 same_id x y = x.id == y.id
 
-some_is : {A : Type 0} {x y : A} → Some x ≡ Some y → x ≡ y
+pub some_is : {A : Type 0} {x y : A} → Some x ≡ Some y → x ≡ y
 some_is e = cc
 
-tested : {A : Type 0} (b : Bool) (m : Option A) (y : A) → (if b then m else None) ≡ Some y → (b ≡ true) × (m ≡ Some y)
+pub tested : {A : Type 0} (b : Bool) (m : Option A) (y : A) → (if b then m else None) ≡ Some y → (b ≡ true) × (m ≡ Some y)
 tested true m y e = (refl, e)
 tested false m y e = cc
 
@@ -75,12 +75,16 @@ rows_follow holds list (suc n) before p r e =
       distinct = distinct_from same_id first more.0.0 (none_same first more.0.0 rest.behind) rest.distinct;
     })
 
--- the rows of a class are members of their own, each once
-pub record RowsFit (file : List ℕ) (class : ℕ) (rows : ClassRows) : Type 0 where
+-- the rows of a class are members of their own, each once, and each holds what its list asks
+pub record RowsFit (file : List ℕ) (o : Owner) (rows : ClassRows) : Type 0 where
   pub fields : all_distinct same_id (rows.statics ++ rows.instances) ≡ true
-  pub own_fields : list_all (λ row. is_field_of file class row.id) (rows.statics ++ rows.instances) ≡ true
+  pub own_fields : list_all (λ row. is_field_of file o.class row.id) (rows.statics ++ rows.instances) ≡ true
   pub methods : all_distinct same_id (methods_in rows) ≡ true
-  pub own_methods : list_all (λ row. is_method_of file class row.id) (methods_in rows) ≡ true
+  pub own_methods : list_all (λ row. is_method_of file o.class row.id) (methods_in rows) ≡ true
+  pub statics : list_all (row_holds file o StaticFields) rows.statics ≡ true
+  pub instances : list_all (row_holds file o InstanceFields) rows.instances ≡ true
+  pub directs : list_all (row_holds file o DirectMethods) rows.directs ≡ true
+  pub virtuals : list_all (row_holds file o VirtualMethods) rows.virtuals ≡ true
 
 own_static : (file : List ℕ) (o : Owner) (row : MemberRow) → row_holds file o StaticFields row ≡ true → is_field_of file o.class row.id ≡ true
 own_static file o row h = (and_parts (is_field_of file o.class row.id) _ h).0
@@ -94,7 +98,7 @@ own_direct file o row h = (and_parts (is_method_of file o.class row.id) _ h).0
 own_virtual : (file : List ℕ) (o : Owner) (row : MemberRow) → row_holds file o VirtualMethods row ≡ true → is_method_of file o.class row.id ≡ true
 own_virtual file o row h = (and_parts (is_method_of file o.class row.id) _ h).0
 
-rows_at_fit : (file : List ℕ) (o : Owner) (p : Place) (rows : ClassRows) → rows_at file o p ≡ Some rows → RowsFit file o.class rows
+rows_at_fit : (file : List ℕ) (o : Owner) (p : Place) (rows : ClassRows) → rows_at file o p ≡ Some rows → RowsFit file o rows
 unfolding rows_at
 rows_at_fit file o p rows e =
     let counts = bind_some (row_counts p) _ rows e in
@@ -110,7 +114,7 @@ rows_at_fit file o p rows e =
     let v = rows_follow (row_holds file o VirtualMethods) VirtualMethods counts.0.0.virtuals None directs.0.1 virtuals.0 virtuals.1.0 in
     let field : MemberRow → Bool = λ row. is_field_of file o.class row.id in
     let method : MemberRow → Bool = λ row. is_method_of file o.class row.id in
-    subst (RowsFit file o.class) (some_is test.1) (record {
+    subst (RowsFit file o) (some_is test.1) (record {
       fields = distinct-append same_id statics.0.0 instances.0.0 s.distinct i.distinct apart.0;
       own_fields = append_all field statics.0.0 instances.0.0
           (all_more (row_holds file o StaticFields) field (own_static file o) statics.0.0 s.hold)
@@ -119,25 +123,38 @@ rows_at_fit file o p rows e =
       own_methods = append_all method directs.0.0 virtuals.0.0
           (all_more (row_holds file o DirectMethods) method (own_direct file o) directs.0.0 d.hold)
           (all_more (row_holds file o VirtualMethods) method (own_virtual file o) virtuals.0.0 v.hold);
+      statics = s.hold;
+      instances = i.hold;
+      directs = d.hold;
+      virtuals = v.hold;
     })
 
-none_fit : (file : List ℕ) (class : ℕ) → RowsFit file class no_rows
-none_fit file class = record { fields = refl; own_fields = refl; methods = refl; own_methods = refl }
+none_fit : (file : List ℕ) (o : Owner) → RowsFit file o no_rows
+none_fit file o = record {
+  fields = refl;
+  own_fields = refl;
+  methods = refl;
+  own_methods = refl;
+  statics = refl;
+  instances = refl;
+  directs = refl;
+  virtuals = refl;
+}
 
-class_rows_fit : (file : List ℕ) (i : ℕ) (rows : ClassRows) → class_rows file i ≡ Some rows → RowsFit file (class_entry file i).class rows
+class_rows_fit : (file : List ℕ) (i : ℕ) (rows : ClassRows) → class_rows file i ≡ Some rows → RowsFit file (owner file i) rows
 unfolding class_rows
 class_rows_fit file i rows e = by_test (class_data_at file i == 0) e
   where
     by_test : (b : Bool) → (if b then Some no_rows else rows_at file (owner file i) (record { bytes = file; at = class_data_at file i })) ≡ Some rows
-        → RowsFit file (class_entry file i).class rows
-    by_test true e = subst (RowsFit file (class_entry file i).class) (some_is e) (none_fit file (class_entry file i).class)
+        → RowsFit file (owner file i) rows
+    by_test true e = subst (RowsFit file (owner file i)) (some_is e) (none_fit file (owner file i))
     by_test false e = rows_at_fit file (owner file i) (record { bytes = file; at = class_data_at file i }) rows e
 
-rows_fit : (file : List ℕ) (i : ℕ) → RowsFit file (class_entry file i).class (rows_of file i)
+pub rows_fit : (file : List ℕ) (i : ℕ) → RowsFit file (owner file i) (rows_of file i)
 rows_fit file i = by_rows (class_rows file i) refl
   where
-    by_rows : (r : Option ClassRows) → class_rows file i ≡ r → RowsFit file (class_entry file i).class (rows_in r)
-    by_rows None e = none_fit file (class_entry file i).class
+    by_rows : (r : Option ClassRows) → class_rows file i ≡ r → RowsFit file (owner file i) (rows_in r)
+    by_rows None e = none_fit file (owner file i)
     by_rows (Some rows) e = class_rows_fit file i rows e
 
 -- no two definitions are of one class

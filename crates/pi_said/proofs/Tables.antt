@@ -17,7 +17,7 @@ asked_first : (b : Bool) (later : Option ℕ) (place : ℕ) → (if b then later
 asked_first true later place e = (refl, e)
 asked_first false later place e = cc
 
-asked_last : (b : Bool) (place : ℕ) → unless b place ≡ None → b ≡ true
+pub asked_last : (b : Bool) (place : ℕ) → unless b place ≡ None → b ≡ true
 asked_last true place e = refl
 asked_last false place e = cc
 

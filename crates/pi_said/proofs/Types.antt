@@ -23,22 +23,22 @@ use Rattle.pi_said.proofs.Lists.{listed_distinct, rises}
 use Rattle.pi_said.proofs.Names.{text_equal, string_said}
 
 -- what is asked of each entry but the first one
-not_first : (k : ℕ) (b : Bool) → ((suc k == 0) || b) ≡ true → b ≡ true
+pub not_first : (k : ℕ) (b : Bool) → ((suc k == 0) || b) ≡ true → b ≡ true
 not_first k b e = grind (arith, nat_tests)
 
-one_back : (k : ℕ) → suc k - 1 ≡ k
+pub one_back : (k : ℕ) → suc k - 1 ≡ k
 one_back k = omega arith
 
-less_is : (o : Ordering) → is_lt o ≡ true → o ≡ Less
+pub less_is : (o : Ordering) → is_lt o ≡ true → o ≡ Less
 less_is Less e = refl
 less_is Equal e = cc
 less_is Greater e = cc
 
 -- a text is below another
-abbrev Below : List ℕ → List ℕ → Type 0
+abbrev pub Below : List ℕ → List ℕ → Type 0
 Below a b = slice_cmp nat_cmp a b ≡ Less
 
-below_differs : (a b : List ℕ) → Below a b → a ≢ b
+pub below_differs : (a b : List ℕ) → Below a b → a ≢ b
 below_differs a b less same =
     let tie : slice_cmp nat_cmp b b ≡ Equal = tied_itself nat_list_cmp_total b in
     let here : slice_cmp nat_cmp b b ≡ Less = subst (λ (t : List ℕ). slice_cmp nat_cmp t b ≡ Less) same less in
@@ -52,7 +52,7 @@ text_follows file none k lt =
     (subst (λ (j : ℕ). is_lt (slice_cmp nat_cmp (string_units file j) (string_units file (suc k))) ≡ true) (one_back k) rising)
 
 -- a string is above each earlier one
-texts_rise : (file : List ℕ) → broken_string_order file ≡ None → (j k : ℕ) → j < k → k < count_at file string_ids → Below (string_units file j) (string_units file k)
+pub texts_rise : (file : List ℕ) → broken_string_order file ≡ None → (j k : ℕ) → j < k → k < count_at file string_ids → Below (string_units file j) (string_units file k)
 texts_rise file none = rises Below nat_list_cmp_total.trans (string_units file) (count_at file string_ids) (text_follows file none)
 
 pub texts_distinct : (file : List ℕ) → broken_string_order file ≡ None → all_distinct same_text (texts_of file) ≡ true
@@ -77,7 +77,7 @@ type_follows file none k lt =
     subst (λ (j : ℕ). type_string file j < type_string file (suc k)) (one_back k) rising
 
 -- the string of a type is above that of each earlier one
-types_rise : (file : List ℕ) → broken_types file ≡ None → (j k : ℕ) → j < k → k < count_at file type_ids → type_string file j < type_string file k
+pub types_rise : (file : List ℕ) → broken_types file ≡ None → (j k : ℕ) → j < k → k < count_at file type_ids → type_string file j < type_string file k
 types_rise file none = rises (λ (a b : ℕ). a < b) (λ x y z a b. omega arith) (type_string file) (count_at file type_ids) (type_follows file none)
 
 -- strings with one number have one text

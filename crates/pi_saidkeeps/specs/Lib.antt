@@ -1,0 +1,2 @@
+-- The classes of the files of a chain.
+pub mod Chains
