@@ -1,0 +1,2 @@
+-- What a file is that classes are written to.
+pub mod Written
