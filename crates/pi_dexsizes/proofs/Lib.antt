@@ -1,0 +1,5 @@
+mod Bare
+mod Numbers
+mod Fronts
+mod Layouts
+mod Spelled
