@@ -1,0 +1,5 @@
+-- Why the answers are those of the definitions.
+pub mod Grown
+pub mod Together
+mod Unnamed
+mod Parts

@@ -1,0 +1,2 @@
+-- What calls that name things make of the pools.
+pub mod Named
