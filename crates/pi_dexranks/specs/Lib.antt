@@ -1,0 +1,3 @@
+-- What the steps of a ranking give.
+pub mod Keys
+pub mod Kept
