@@ -1,0 +1,4 @@
+-- What a builder holds, and what file it gives.
+pub mod Built
+pub mod Held
+pub mod Ready
