@@ -9,13 +9,13 @@ import os
 import sys
 
 from cases import (
-    arith, asmtext, code, frames, insns, jobs, layouts, lists, literals, lookups, members, memory, numbers, outside, patch, raw, reader, top)
+    arith, asmtext, builds, code, frames, insns, jobs, layouts, lists, literals, lookups, members, memory, numbers, outside, patch, raw, reader, top)
 from cases.five import five
 from cases.rows import Rows
 
 # In the order in which the program runs them.
 SUBJECTS = [
-    outside, top, raw, members, code, reader, layouts, jobs, asmtext, arith, insns, numbers, lists, lookups, memory, frames, literals, patch]
+    outside, top, raw, members, code, reader, layouts, builds, jobs, asmtext, arith, insns, numbers, lists, lookups, memory, frames, literals, patch]
 CRATES = os.path.join(os.path.dirname(os.path.abspath(__file__)), '..', 'crates')
 
 

@@ -11,6 +11,7 @@ mod stores;
 mod top;
 
 use outside::Outside;
+use pi_buildrows::builds::Builds;
 use pi_layrows::layouts::Layouts;
 use pi_partrows::acts::Acts;
 use pi_partrows::arith::Arithmetic;
@@ -38,6 +39,7 @@ fn main(rt: HostRuntime) -> io::Result<()> {
         follow_rows(&rt, file, Reader::new(alloc))?;
     }
     follow_rows(&rt, "layouts", Layouts::new(alloc))?;
+    follow_rows(&rt, "builds", Builds::new(alloc))?;
     follow_rows(&rt, "jobs", Jobs::new(alloc))?;
     follow_rows(&rt, "asmtext", AsmText::new(alloc))?;
     follow_parts(&rt, alloc)?;
